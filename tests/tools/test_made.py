@@ -122,7 +122,7 @@ class Calls(unittest.TestCase):
 
     def test_methods_and_labels_are_listed(self):
         self.assertRegex(self.section("daa_lines"), r"\n- `Lines::take_line` \([^)]*`not_yet`[^)]*\): \S")
-        self.assertIn("\n- `Source::read` (", self.section("daa_outside"))
+        self.assertIn("\n- `Source::read` (", self.section("daa_io"))
 
     def test_no_item_lacks_a_comment(self):
         self.assertEqual(re.findall(r"(?m)^- .*: ?$", self.text), [])

@@ -1,6 +1,6 @@
 //! A source for tests: one of its reads waits at a gate, until another thread arrives there.
 
-use daa_outside::{Failed, Gate, MemSource, Source};
+use daa_io::{Failed, Gate, MemSource, Source};
 
 /// A source whose read of one number waits at a gate. It passes the gate as worker 0.
 #[derive(Drop)]

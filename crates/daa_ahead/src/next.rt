@@ -5,7 +5,7 @@ ghost use Rattle.daa_ahead.specs.Bytes.{stream_state};
 ghost use Rattle.daa_ahead.specs.Next.{NextIs, ReadsLast};
 
 use crate::ended::Ended;
-use daa_outside::{Failed, Source};
+use daa_io::{Failed, Source};
 
 /// What a read gives: a number of bytes, or the end of reading.
 #[derive(Clone, Copy, Debug, PartialEq, Eq)]

@@ -6,7 +6,7 @@ ghost use Rattle.daa_cockpit.specs.Inside.Shows.{IsDrawn, ShowsAll, IsSameDispla
 
 use anyhow::{Result, bail};
 use daa_engine::Engine;
-use daa_outside::{MemSink, Open};
+use daa_io::{MemSink, Open};
 use daa_screen::{Feed, Screen};
 use std::alloc::{AllocError, Global};
 use std::sync::atomic::{AtomicBool, Ordering};

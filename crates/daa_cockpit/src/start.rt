@@ -8,7 +8,7 @@ use crate::flight_deck::FlightDeck;
 use anyhow::{Result, anyhow, bail};
 use daa_config::read;
 use daa_engine::Engine;
-use daa_outside::MemSink;
+use daa_io::MemSink;
 use daa_screen::Feed;
 use std::alloc::Global;
 use std::rt::{Env, Files};

@@ -17,7 +17,7 @@ use Rattle.daa_config.specs.Settings.{Settings, IsAccepted, IsInBounds, value_bo
 use Rattle.daa_config.specs.Candidates.{grid_of, values_of, least_of, greatest_of, AreStepsUpTo}
 use Rattle.daa_config.specs.declared.numbers.Grid.{Grid}
 use Rattle.daa_config.specs.declared.kind.Kind.{Kind}
-use Rattle.daa_config.specs.declared.kind.Kind.TheVariants.{Track, Speed, Climb, Height}
+use Rattle.daa_config.specs.declared.kind.Kind.TheVariants.{Track, GroundSpeed, VerticalSpeed, Altitude}
 use Rattle.daa_config.proofs.RangeLemmas.{stepped, size_is}
 
 -- ---- one grid
@@ -125,9 +125,9 @@ stepped_kind s Track h = let t = h.track_step.least in record {
   high = omega (arith, ints);
   step = omega (arith, ints);
 }
-stepped_kind s Speed h = stepped (value_bounds Speed) s.numbers.gs (omega (arith, ints)) (omega (arith, ints)) h.gs
-stepped_kind s Climb h = stepped (value_bounds Climb) s.numbers.vs (omega (arith, ints)) (omega (arith, ints)) h.vs
-stepped_kind s Height h = stepped (value_bounds Height) s.numbers.alt (omega (arith, ints)) (omega (arith, ints)) h.alt
+stepped_kind s GroundSpeed h = stepped (value_bounds GroundSpeed) s.numbers.gs (omega (arith, ints)) (omega (arith, ints)) h.gs
+stepped_kind s VerticalSpeed h = stepped (value_bounds VerticalSpeed) s.numbers.vs (omega (arith, ints)) (omega (arith, ints)) h.vs
+stepped_kind s Altitude h = stepped (value_bounds Altitude) s.numbers.alt (omega (arith, ints)) (omega (arith, ints)) h.alt
 
 quotient : (n k : ℕ) → n / k ≤ n
 quotient n k = grind arith
@@ -140,17 +140,17 @@ few_tracks s = omega (arith, quotient 359 (nat_abs s.numbers.track_step))
 pub few_of_kind : (s : Settings) (k : Kind) → IsAccepted s → count_of (grid_of k s) ≤ 512
 unfolding grid_of
 few_of_kind s Track h = omega (arith, few_tracks s)
-few_of_kind s Speed h = h.gs.few
-few_of_kind s Climb h = h.vs.few
-few_of_kind s Height h = h.alt.few
+few_of_kind s GroundSpeed h = h.gs.few
+few_of_kind s VerticalSpeed h = h.vs.few
+few_of_kind s Altitude h = h.alt.few
 
 -- the ends of a kind's grid are in the kind's range
 pub in_bounds_of : (s : Settings) (k : Kind) (z : ℤ) → IsAccepted s → (grid_of k s).min ≤ℤ z → z ≤ℤ (grid_of k s).max → IsInBounds (value_bounds k) z
 unfolding grid_of
 in_bounds_of s Track z h low high = record { least = low; most = high }
-in_bounds_of s Speed z h low high = let l = h.gs.least in let m = h.gs.most in record { least = omega (arith, ints); most = omega (arith, ints) }
-in_bounds_of s Climb z h low high = let l = h.vs.least in let m = h.vs.most in record { least = omega (arith, ints); most = omega (arith, ints) }
-in_bounds_of s Height z h low high = let l = h.alt.least in let m = h.alt.most in record { least = omega (arith, ints); most = omega (arith, ints) }
+in_bounds_of s GroundSpeed z h low high = let l = h.gs.least in let m = h.gs.most in record { least = omega (arith, ints); most = omega (arith, ints) }
+in_bounds_of s VerticalSpeed z h low high = let l = h.vs.least in let m = h.vs.most in record { least = omega (arith, ints); most = omega (arith, ints) }
+in_bounds_of s Altitude z h low high = let l = h.alt.least in let m = h.alt.most in record { least = omega (arith, ints); most = omega (arith, ints) }
 
 -- a value at an index of a kind
 pub record IsValueAt (k : Kind) (s : Settings) (i : ℕ) (z : ℤ) : Type 0 where

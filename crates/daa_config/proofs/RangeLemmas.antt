@@ -9,7 +9,7 @@ use Rattle.std.proofs.lemmas.List.{length-map}
 use Rattle.std.proofs.lemmas.List.Folds.{list_all-append}
 use Rattle.std.proofs.lemmas.Bool.{and_parts, or_parts}
 use Rattle.daa_fixed.specs.Size.{IsFrom}
-use Rattle.daa_config.specs.declared.kind.Kind.TheVariants.{Speed, Climb, Height}
+use Rattle.daa_config.specs.declared.kind.Kind.TheVariants.{GroundSpeed, VerticalSpeed, Altitude}
 use Rattle.daa_config.specs.declared.level.Level.{Level}
 use Rattle.daa_config.specs.declared.limits.Bounds.{Bounds}
 use Rattle.daa_config.specs.declared.numbers.Grid.{Grid}
@@ -70,17 +70,17 @@ of_levels (l ∷ ls) = list_all-append (λ (row : Row). row.fits) (level_rows l)
 -- the tests of the tables, one after the other
 abbrev pub tables_fit : Written → Bool
 tables_fit w =
-    fit (document_rows w.numbers w.last_times) && (fit (grid_rows (value_bounds Speed) w.numbers.gs) && (fit (grid_rows (value_bounds Climb) w.numbers.vs)
-    && (fit (grid_rows (value_bounds Height) w.numbers.alt) && (recovery_fits w.recovery && list_all level_fits w.levels))))
+    fit (document_rows w.numbers w.last_times) && (fit (grid_rows (value_bounds GroundSpeed) w.numbers.gs) && (fit (grid_rows (value_bounds VerticalSpeed) w.numbers.vs)
+    && (fit (grid_rows (value_bounds Altitude) w.numbers.alt) && (recovery_fits w.recovery && list_all level_fits w.levels))))
 
 pub all_rows : (w : Written) → fit (rows_of w) ≡ tables_fit w
 unfolding rows_of
 all_rows w =
     let p : Row → Bool = λ row. row.fits in
     let d = document_rows w.numbers w.last_times in
-    let g = grid_rows (value_bounds Speed) w.numbers.gs in
-    let v = grid_rows (value_bounds Climb) w.numbers.vs in
-    let a = grid_rows (value_bounds Height) w.numbers.alt in
+    let g = grid_rows (value_bounds GroundSpeed) w.numbers.gs in
+    let v = grid_rows (value_bounds VerticalSpeed) w.numbers.vs in
+    let a = grid_rows (value_bounds Altitude) w.numbers.alt in
     let r = option_map_or recovery_rows w.recovery [] in
     let l = flat_map level_rows w.levels in
     list_all-append p d (g ++ (v ++ (a ++ (r ++ l))))
@@ -104,9 +104,9 @@ fails_first a x ha = rw ha refl
 -- the tables of the document and of the kinds pass
 pub record AreKindsFit (w : Written) : Type 0 where
   pub top : fit (document_rows w.numbers w.last_times) ≡ true
-  pub gs : fit (grid_rows (value_bounds Speed) w.numbers.gs) ≡ true
-  pub vs : fit (grid_rows (value_bounds Climb) w.numbers.vs) ≡ true
-  pub alt : fit (grid_rows (value_bounds Height) w.numbers.alt) ≡ true
+  pub gs : fit (grid_rows (value_bounds GroundSpeed) w.numbers.gs) ≡ true
+  pub vs : fit (grid_rows (value_bounds VerticalSpeed) w.numbers.vs) ≡ true
+  pub alt : fit (grid_rows (value_bounds Altitude) w.numbers.alt) ≡ true
 
 pub levels_decide : (w : Written) → AreKindsFit w → recovery_fits w.recovery ≡ true → fit (rows_of w) ≡ list_all level_fits w.levels
 levels_decide w k r = all_rows w ∙ passes_on _ _ _ _ _ (list_all level_fits w.levels) k.top k.gs k.vs k.alt r
@@ -287,18 +287,18 @@ recovery_in_range (Some n) h cylinder e =
 -- what the tests of the tables give
 record Ranges (w : Written) : Type 0 where
   numbers : Parts w.numbers
-  gs : Fits (value_bounds Speed) w.numbers.gs
-  vs : Fits (value_bounds Climb) w.numbers.vs
-  alt : Fits (value_bounds Height) w.numbers.alt
+  gs : Fits (value_bounds GroundSpeed) w.numbers.gs
+  vs : Fits (value_bounds VerticalSpeed) w.numbers.vs
+  alt : Fits (value_bounds Altitude) w.numbers.alt
   recovery : recovery_fits w.recovery ≡ true
   levels : list_all level_fits w.levels ≡ true
 
 ranges : (w : Written) → fit (rows_of w) ≡ true → Ranges w
 ranges w h =
     let a = and_parts (fit (document_rows w.numbers w.last_times)) _ (sym (all_rows w) ∙ h) in
-    let b = and_parts (fit (grid_rows (value_bounds Speed) w.numbers.gs)) _ a.1 in
-    let d = and_parts (fit (grid_rows (value_bounds Climb) w.numbers.vs)) _ b.1 in
-    let e = and_parts (fit (grid_rows (value_bounds Height) w.numbers.alt)) _ d.1 in
+    let b = and_parts (fit (grid_rows (value_bounds GroundSpeed) w.numbers.gs)) _ a.1 in
+    let d = and_parts (fit (grid_rows (value_bounds VerticalSpeed) w.numbers.vs)) _ b.1 in
+    let e = and_parts (fit (grid_rows (value_bounds Altitude) w.numbers.alt)) _ d.1 in
     let f = and_parts (recovery_fits w.recovery) _ e.1 in
     record {
       numbers = parts _ w.last_times a.0;
@@ -380,7 +380,7 @@ pub all_stepped : (w : Written) → fit (rows_of w) ≡ true → AreStepped w.nu
 all_stepped w h =
     let r = ranges w h in
     record {
-      gs = fits_stepped (value_bounds Speed) w.numbers.gs (omega (arith, ints)) (omega (arith, ints)) r.gs;
-      vs = fits_stepped (value_bounds Climb) w.numbers.vs (omega (arith, ints)) (omega (arith, ints)) r.vs;
-      alt = fits_stepped (value_bounds Height) w.numbers.alt (omega (arith, ints)) (omega (arith, ints)) r.alt;
+      gs = fits_stepped (value_bounds GroundSpeed) w.numbers.gs (omega (arith, ints)) (omega (arith, ints)) r.gs;
+      vs = fits_stepped (value_bounds VerticalSpeed) w.numbers.vs (omega (arith, ints)) (omega (arith, ints)) r.vs;
+      alt = fits_stepped (value_bounds Altitude) w.numbers.alt (omega (arith, ints)) (omega (arith, ints)) r.alt;
     }

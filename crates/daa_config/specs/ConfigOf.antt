@@ -7,7 +7,7 @@ use Rattle.toml.specs.Data.{Members}
 use Rattle.toml.specs.Parse.{parse_document}
 use Rattle.daa_config.specs.declared.fault.ConfigFault.{ConfigFault}
 use Rattle.daa_config.specs.declared.fault.ConfigFault.TheVariants.{TooLong, NotToml, UnknownKey, MissingKey, NotNumber, OutOfRange, Levels, TooMany}
-use Rattle.daa_config.specs.declared.kind.Kind.TheVariants.{Speed, Climb, Height}
+use Rattle.daa_config.specs.declared.kind.Kind.TheVariants.{GroundSpeed, VerticalSpeed, Altitude}
 use Rattle.daa_config.specs.declared.numbers.Numbers.{Numbers}
 use Rattle.daa_config.specs.declared.numbers.LevelNumbers.{LevelNumbers}
 use Rattle.daa_config.specs.declared.numbers.RecoveryNumbers.{RecoveryNumbers}
@@ -29,7 +29,7 @@ pub record Written : Type 0 where
 unfoldable pub rows_of : Written → List Row
 rows_of w =
     document_rows w.numbers w.last_times
-    ++ (grid_rows (value_bounds Speed) w.numbers.gs ++ (grid_rows (value_bounds Climb) w.numbers.vs ++ (grid_rows (value_bounds Height) w.numbers.alt
+    ++ (grid_rows (value_bounds GroundSpeed) w.numbers.gs ++ (grid_rows (value_bounds VerticalSpeed) w.numbers.vs ++ (grid_rows (value_bounds Altitude) w.numbers.alt
     ++ (option_map_or recovery_rows w.recovery [] ++ flat_map level_rows w.levels))))
 
 -- ---- the faults, in the order of their numbers

@@ -4,7 +4,7 @@ use Rattle.std.specs.Prelude.{ℤ, pos, Bool, false, ◌||◌, List, [], Option,
 use Rattle.std.specs.List.{list_any, filter_map}
 use Rattle.std.specs.Option.{option_map_or}
 use Rattle.toml.specs.Data.{Members, no_members, get_member, as_integer, as_table, as_array}
-use Rattle.daa_config.specs.declared.kind.Kind.TheVariants.{Speed, Climb, Height}
+use Rattle.daa_config.specs.declared.kind.Kind.TheVariants.{GroundSpeed, VerticalSpeed, Altitude}
 use Rattle.daa_config.specs.declared.numbers.Grid.{Grid}
 use Rattle.daa_config.specs.declared.numbers.Numbers.{Numbers}
 use Rattle.daa_config.specs.declared.numbers.LevelNumbers.{LevelNumbers}
@@ -53,8 +53,8 @@ numbers_by at grid = record { resolve = at "resolve"; turn_rate = at "turn_rate"
 unfoldable pub any_table : (List Row → Members → Bool) → Members → Bool
 any_table differs ms =
     differs (document_rows (numbers_by (number_in ms) (grid_in ms)) (number_in ms "last_times")) ms
-    || (option_map_or (λ t. differs (grid_rows (value_bounds Speed) (grid_by (number_in t))) t) (table_in ms "gs") false
-    || (option_map_or (λ t. differs (grid_rows (value_bounds Climb) (grid_by (number_in t))) t) (table_in ms "vs") false
-    || (option_map_or (λ t. differs (grid_rows (value_bounds Height) (grid_by (number_in t))) t) (table_in ms "alt") false
+    || (option_map_or (λ t. differs (grid_rows (value_bounds GroundSpeed) (grid_by (number_in t))) t) (table_in ms "gs") false
+    || (option_map_or (λ t. differs (grid_rows (value_bounds VerticalSpeed) (grid_by (number_in t))) t) (table_in ms "vs") false
+    || (option_map_or (λ t. differs (grid_rows (value_bounds Altitude) (grid_by (number_in t))) t) (table_in ms "alt") false
     || (option_map_or (λ t. differs (recovery_rows (recovery_by (number_in t))) t) (table_in ms "recovery") false
     || list_any (λ t. differs (level_rows (level_by (number_in t))) t) (levels_in ms)))))

@@ -5,10 +5,10 @@ use Rattle.daa_taumod.specs.declared.Model.TheVariants.{Taumod}
 use Rattle.daa_taumod.specs.declared.Volume.{Volume}
 use Rattle.daa_taumod.specs.Volume.{IsVolumeInRange}
 use Rattle.daa_config.specs.declared.candidate.Candidate.{Candidate}
-use Rattle.daa_config.specs.declared.candidate.Candidate.TheVariants.{Hold, Track as ToTrack, Speed as ToSpeed, Climb as ToClimb, Height as ToHeight}
+use Rattle.daa_config.specs.declared.candidate.Candidate.TheVariants.{Hold, Track as ToTrack, GroundSpeed as ToSpeed, VerticalSpeed as ToClimb, Altitude as ToHeight}
 use Rattle.daa_config.specs.declared.config.Rates.{Rates}
 use Rattle.daa_config.specs.declared.kind.Kind.{Kind}
-use Rattle.daa_config.specs.declared.kind.Kind.TheVariants.{Track, Speed, Climb, Height}
+use Rattle.daa_config.specs.declared.kind.Kind.TheVariants.{Track, GroundSpeed, VerticalSpeed, Altitude}
 use Rattle.daa_config.specs.declared.level.Level.{Level}
 use Rattle.daa_config.specs.declared.limits.Bounds.{Bounds}
 use Rattle.daa_config.specs.declared.numbers.Grid.{Grid}
@@ -48,17 +48,17 @@ IsInBounds bounds z = IsFrom bounds.low bounds.high z
 -- what any value of a kind is from and up to: a degree, 0.1 kt, ft/min, ft
 abbrev pub value_bounds : Kind → Bounds
 value_bounds Track = from_to (pos 0) (pos 359)
-value_bounds Speed = from_to (pos 0) (pos 10000)
-value_bounds Climb = from_to (neg_ℤ (pos 10000)) (pos 10000)
-value_bounds Height = from_to (neg_ℤ (pos 2000)) (pos 60000)
+value_bounds GroundSpeed = from_to (pos 0) (pos 10000)
+value_bounds VerticalSpeed = from_to (neg_ℤ (pos 10000)) (pos 10000)
+value_bounds Altitude = from_to (neg_ℤ (pos 2000)) (pos 60000)
 
 -- a candidate whose value its kind can have
 abbrev pub IsCandidateInRange : Candidate → Type 0
 IsCandidateInRange Hold = Unit {0}
 IsCandidateInRange (ToTrack c) = IsInBounds (value_bounds Track) c
-IsCandidateInRange (ToSpeed g) = IsInBounds (value_bounds Speed) g
-IsCandidateInRange (ToClimb w) = IsInBounds (value_bounds Climb) w
-IsCandidateInRange (ToHeight a) = IsInBounds (value_bounds Height) a
+IsCandidateInRange (ToSpeed g) = IsInBounds (value_bounds GroundSpeed) g
+IsCandidateInRange (ToClimb w) = IsInBounds (value_bounds VerticalSpeed) w
+IsCandidateInRange (ToHeight a) = IsInBounds (value_bounds Altitude) a
 
 -- each rate of change is within its bounds
 pub record AreRatesInRange (r : Rates) : Type 0 where
@@ -97,9 +97,9 @@ pub record IsAccepted (settings : Settings) : Type 0 where
   pub rates : AreRatesInRange (rates_of settings)
   pub track_step : IsFrom (pos 1) (pos 90) settings.numbers.track_step
   pub divides : full_turn % nat_abs settings.numbers.track_step ≡ 0
-  pub gs : IsGridInRange (value_bounds Speed) settings.numbers.gs
-  pub vs : IsGridInRange (value_bounds Climb) settings.numbers.vs
-  pub alt : IsGridInRange (value_bounds Height) settings.numbers.alt
+  pub gs : IsGridInRange (value_bounds GroundSpeed) settings.numbers.gs
+  pub vs : IsGridInRange (value_bounds VerticalSpeed) settings.numbers.vs
+  pub alt : IsGridInRange (value_bounds Altitude) settings.numbers.alt
   pub some_level : 1 ≤ length settings.levels
   pub few_levels : length settings.levels ≤ 4
   pub level : (l : ℕ) (level : Level) → IsLevelAt settings l level → IsLevelInRange level

@@ -7,9 +7,9 @@
 pub enum Candidate {
     Hold,
     Track(i32),
-    Speed(i32),
-    Climb(i32),
-    Height(i32),
+    GroundSpeed(i32),
+    VerticalSpeed(i32),
+    Altitude(i32),
 }
 
 /// The answer on one side of a kind: keep the present flight, go to this value, or no value is

@@ -31,7 +31,7 @@ pub struct Rates {
 
 /// How many candidates each kind has.
 #[derive(Clone, Copy, Debug)]
-pub(crate) struct Counts {
+pub(crate) struct CandidateCounts {
     tracks: u32,
     speeds: u32,
     climbs: u32,
@@ -43,7 +43,7 @@ pub(crate) struct Counts {
 #[derive(Drop)]
 pub struct Config {
     numbers: Numbers,
-    counts: Counts,
+    counts: CandidateCounts,
     recovery: Option<Volume>,
     nearest: bool,
     last_times: bool,
@@ -91,16 +91,16 @@ impl Model for Config {
     }) × AreCounts c.numbers c.counts };
 }
 
-impl Counts {
+impl CandidateCounts {
     /// How many candidates a kind has.
     fn of(&self, kind: Kind) -> u32
         ensures { result ≡ count_in self.now kind }
     {
         match kind {
             Kind::Track => self.tracks,
-            Kind::Speed => self.speeds,
-            Kind::Climb => self.climbs,
-            Kind::Height => self.heights,
+            Kind::GroundSpeed => self.speeds,
+            Kind::VerticalSpeed => self.climbs,
+            Kind::Altitude => self.heights,
         }
     }
 }
@@ -263,7 +263,7 @@ impl Config {
     }
 
     /// The counts of the kinds.
-    fn counts(&self) -> Counts
+    fn counts(&self) -> CandidateCounts
         ensures value { AreCounts self.now.numbers result }
         ensures accepted { IsAccepted self.now }
     {
@@ -326,9 +326,11 @@ impl Config {
         let tracks = self.count(Kind::Track);
         match kind {
             Kind::Track => 1,
-            Kind::Speed => 1 + tracks,
-            Kind::Climb => 1 + tracks + self.count(Kind::Speed),
-            Kind::Height => 1 + tracks + self.count(Kind::Speed) + self.count(Kind::Climb),
+            Kind::GroundSpeed => 1 + tracks,
+            Kind::VerticalSpeed => 1 + tracks + self.count(Kind::GroundSpeed),
+            Kind::Altitude => {
+                1 + tracks + self.count(Kind::GroundSpeed) + self.count(Kind::VerticalSpeed)
+            }
         }
     }
 
@@ -340,7 +342,7 @@ impl Config {
         ensures few { result ≤ 1897 }
         ensures accepted { IsAccepted self.now }
     {
-        self.start(Kind::Height) + self.count(Kind::Height)
+        self.start(Kind::Altitude) + self.count(Kind::Altitude)
     }
 
     /// The candidate at an index of the whole list: Hold at 0, then the candidates of track, ground
@@ -355,16 +357,16 @@ impl Config {
         if index < self.start(Kind::Track) {
             return Candidate::Hold;
         }
-        if index < self.start(Kind::Speed) {
+        if index < self.start(Kind::GroundSpeed) {
             return self.candidate_in(Kind::Track, index - self.start(Kind::Track));
         }
-        if index < self.start(Kind::Climb) {
-            return self.candidate_in(Kind::Speed, index - self.start(Kind::Speed));
+        if index < self.start(Kind::VerticalSpeed) {
+            return self.candidate_in(Kind::GroundSpeed, index - self.start(Kind::GroundSpeed));
         }
-        if index < self.start(Kind::Height) {
-            return self.candidate_in(Kind::Climb, index - self.start(Kind::Climb));
+        if index < self.start(Kind::Altitude) {
+            return self.candidate_in(Kind::VerticalSpeed, index - self.start(Kind::VerticalSpeed));
         }
-        self.candidate_in(Kind::Height, index - self.start(Kind::Height))
+        self.candidate_in(Kind::Altitude, index - self.start(Kind::Altitude))
     }
 
     /// The candidate at an index of a kind's list, below `count`: the one that goes to the value
@@ -382,9 +384,9 @@ impl Config {
         let value = self.value(kind, index);
         match kind {
             Kind::Track => Candidate::Track(value),
-            Kind::Speed => Candidate::Speed(value),
-            Kind::Climb => Candidate::Climb(value),
-            Kind::Height => Candidate::Height(value),
+            Kind::GroundSpeed => Candidate::GroundSpeed(value),
+            Kind::VerticalSpeed => Candidate::VerticalSpeed(value),
+            Kind::Altitude => Candidate::Altitude(value),
         }
     }
 }
@@ -402,9 +404,9 @@ fn grid_of(numbers: &Numbers, kind: Kind) -> Grid
             step: numbers.track_step,
             rate: numbers.turn_rate,
         },
-        Kind::Speed => numbers.gs,
-        Kind::Climb => numbers.vs,
-        Kind::Height => numbers.alt,
+        Kind::GroundSpeed => numbers.gs,
+        Kind::VerticalSpeed => numbers.vs,
+        Kind::Altitude => numbers.alt,
     }
 }
 
@@ -418,15 +420,15 @@ fn count_kind(numbers: &Numbers, kind: Kind) -> u32
 }
 
 /// Counts the candidates of each kind.
-fn counts_of(numbers: &Numbers) -> Counts
+fn counts_of(numbers: &Numbers) -> CandidateCounts
     requires { AreOfAccepted numbers.now }
     ensures { AreCounts numbers.now result }
 {
-    Counts {
+    CandidateCounts {
         tracks: count_kind(numbers, Kind::Track),
-        speeds: count_kind(numbers, Kind::Speed),
-        climbs: count_kind(numbers, Kind::Climb),
-        heights: count_kind(numbers, Kind::Height),
+        speeds: count_kind(numbers, Kind::GroundSpeed),
+        climbs: count_kind(numbers, Kind::VerticalSpeed),
+        heights: count_kind(numbers, Kind::Altitude),
     }
 }
 

@@ -5,7 +5,7 @@
 #[derive(Clone, Copy, Debug, PartialEq, Eq)]
 pub enum Kind {
     Track,
-    Speed,
-    Climb,
-    Height,
+    GroundSpeed,
+    VerticalSpeed,
+    Altitude,
 }

@@ -20,7 +20,7 @@ use toml::Table;
 
 /// The numbers of a document, whatever they are.
 #[derive(Debug, Drop)]
-struct Found {
+struct DocumentNumbers {
     numbers: Numbers,
     recovery: Option<RecoveryNumbers>,
     last_times: i64,
@@ -46,7 +46,7 @@ fn parse(alloc: Global, text: &[u8]) -> Result<Table, ConfigFault>
 
 /// The numbers of a document, where no table of it differs from its rows.
 #[tactic(auto, unfolding(crate::specs::ConfigOf::config_in))]
-fn find(alloc: Global, document: &Table) -> Result<Found, ConfigFault>
+fn find(alloc: Global, document: &Table) -> Result<DocumentNumbers, ConfigFault>
     ensures found { IfOk result (λ found. config_in (table_view document.now)
         ≡ settings_of (written_from found)) }
     ensures refused { IfErr result (λ fault. fault ≢ NoMemory
@@ -61,7 +61,7 @@ fn find(alloc: Global, document: &Table) -> Result<Found, ConfigFault>
     if any_table_differs(Difference::NotNumber, document) {
         return Err(ConfigFault::NotNumber);
     }
-    Ok(Found {
+    Ok(DocumentNumbers {
         numbers: numbers_of(document),
         recovery: recovery_of(document),
         last_times: last_times_of(document),
@@ -83,7 +83,7 @@ fn list_levels(levels: &[LevelNumbers]) -> ArrayVec<LevelNumbers, MOST_LEVELS>
 
 /// The numbers, if they are allowed in a configuration.
 #[tactic(auto, unfolding(crate::specs::ConfigOf::settings_of, crate::specs::Inside::Numbers::levels_are_wrong, crate::specs::Inside::Numbers::has_too_many))]
-fn accept(found: &Found) -> Result<ConfigNumbers, ConfigFault>
+fn accept(found: &DocumentNumbers) -> Result<ConfigNumbers, ConfigFault>
     ensures same { IfOk result (λ numbers. written_by numbers ≡ written_from found.now) }
     ensures accepted { IfOk result (λ numbers. IsOk (settings_of (written_by numbers))) }
     ensures refused { IfErr result (λ fault. settings_of (written_from found.now) ≡ Err fault) }

@@ -6,7 +6,7 @@ ghost use Rattle.std.specs.List.{list_all};
 ghost use Rattle.toml.specs.Data.{as_table};
 ghost use Rattle.toml.specs.View.{view, items_view};
 ghost use Rattle.daa_fixed.specs.Size.{IsFrom};
-ghost use Rattle.daa_config.specs.declared.rows.Place.TheVariants.{Number, Table as OfTable};
+ghost use Rattle.daa_config.specs.declared.rows.Entry.TheVariants.{Number, Table as OfTable};
 ghost use Rattle.daa_config.specs.Inside.Rows.{row_by};
 ghost use Rattle.daa_config.specs.Rows as listed;
 
@@ -17,7 +17,7 @@ use toml::Value;
 /// What stands at a key: a whole number from the least to the greatest, here this one; a table; or
 /// a list of tables.
 #[derive(Clone, Copy)]
-pub enum Place {
+pub enum Entry {
     Number {
         least: i64,
         greatest: i64,
@@ -32,7 +32,7 @@ pub enum Place {
 pub struct Row {
     pub key: &'static str,
     pub needed: bool,
-    pub place: Place,
+    pub place: Entry,
 }
 
 impl Row {
@@ -41,7 +41,7 @@ impl Row {
         ensures { result ≡ (row_by self.now).fits }
     {
         match self.place {
-            Place::Number {
+            Entry::Number {
                 least,
                 greatest,
                 here,
@@ -55,9 +55,9 @@ impl Row {
         ensures { result ≡ (row_by self.now).holds (view value.now) }
     {
         match self.place {
-            Place::Number { .. } => value.as_integer().is_some(),
-            Place::Table => value.as_table().is_some(),
-            Place::Tables => are_tables(value),
+            Entry::Number { .. } => value.as_integer().is_some(),
+            Entry::Table => value.as_table().is_some(),
+            Entry::Tables => are_tables(value),
         }
     }
 }
@@ -108,7 +108,7 @@ fn number(key: &'static str, least: i64, greatest: i64, here: i64) -> Row
     Row {
         key,
         needed: true,
-        place: Place::Number {
+        place: Entry::Number {
             least,
             greatest,
             here,
@@ -137,7 +137,7 @@ fn table(key: &'static str) -> Row
     Row {
         key,
         needed: true,
-        place: Place::Table,
+        place: Entry::Table,
     }
 }
 
@@ -153,7 +153,7 @@ pub(crate) fn document_rows(n: &Numbers, last_times: &i64) -> [Row; 9]
         table("vs"),
         table("alt"),
         Row {
-            place: Place::Tables,
+            place: Entry::Tables,
             ..table("level")
         },
         Row {

@@ -17,7 +17,7 @@ use Rattle.daa_config.specs.Settings.{Settings, IsAccepted, IsInBounds, value_bo
 use Rattle.daa_config.specs.declared.candidate.Resolution.{Resolution}
 use Rattle.daa_config.specs.declared.candidate.Resolution.TheVariants.{Keep, To, Nothing}
 use Rattle.daa_config.specs.declared.kind.Kind.{Kind}
-use Rattle.daa_config.specs.declared.kind.Kind.TheVariants.{Track, Speed, Climb, Height}
+use Rattle.daa_config.specs.declared.kind.Kind.TheVariants.{Track, GroundSpeed, VerticalSpeed, Altitude}
 use Rattle.daa_config.proofs.GridLemmas.{length-values, few_tracks, few_of_kind, value_there}
 use Rattle.daa_state.specs.Id.{is_id}
 use Rattle.daa_state.specs.InRange.{IsTrafficInRange, IsPictureInRange}
@@ -59,9 +59,9 @@ few_signed (negsuc n) h = let l = h.least in omega (arith, length-decimal-le 11 
 
 value_of_kind : (kind : Kind) (z : ℤ) → IsInBounds (value_bounds kind) z → IsValue z
 value_of_kind Track z h = let l = h.least in let m = h.most in record { least = omega (arith, ints); most = omega (arith, ints) }
-value_of_kind Speed z h = let l = h.least in let m = h.most in record { least = omega (arith, ints); most = omega (arith, ints) }
-value_of_kind Climb z h = let l = h.least in let m = h.most in record { least = omega (arith, ints); most = omega (arith, ints) }
-value_of_kind Height z h = let l = h.least in let m = h.most in record { least = omega (arith, ints); most = omega (arith, ints) }
+value_of_kind GroundSpeed z h = let l = h.least in let m = h.most in record { least = omega (arith, ints); most = omega (arith, ints) }
+value_of_kind VerticalSpeed z h = let l = h.least in let m = h.most in record { least = omega (arith, ints); most = omega (arith, ints) }
+value_of_kind Altitude z h = let l = h.least in let m = h.most in record { least = omega (arith, ints); most = omega (arith, ints) }
 
 -- ---- lines
 
@@ -74,21 +74,21 @@ few_of_id id h = grind (arith, nat_tests)
 
 word_of_kind : (kind : Kind) → length (kind_word kind) ≤ 5
 word_of_kind Track = omega arith
-word_of_kind Speed = omega arith
-word_of_kind Climb = omega arith
-word_of_kind Height = omega arith
+word_of_kind GroundSpeed = omega arith
+word_of_kind VerticalSpeed = omega arith
+word_of_kind Altitude = omega arith
 
 lower_of_kind : (kind : Kind) → length ((side_words kind).0) ≤ 5
 lower_of_kind Track = omega arith
-lower_of_kind Speed = omega arith
-lower_of_kind Climb = omega arith
-lower_of_kind Height = omega arith
+lower_of_kind GroundSpeed = omega arith
+lower_of_kind VerticalSpeed = omega arith
+lower_of_kind Altitude = omega arith
 
 upper_of_kind : (kind : Kind) → length ((side_words kind).1) ≤ 5
 upper_of_kind Track = omega arith
-upper_of_kind Speed = omega arith
-upper_of_kind Climb = omega arith
-upper_of_kind Height = omega arith
+upper_of_kind GroundSpeed = omega arith
+upper_of_kind VerticalSpeed = omega arith
+upper_of_kind Altitude = omega arith
 
 -- a number of at most this length, or a word
 number_or_short : (number : Option ℕ) (word : Text) → length word ≤ 20 → ((n : ℕ) → number ≡ Some n → n < 2 ^ 32) → length (option_map_or decimal number word) ≤ 20
@@ -414,10 +414,10 @@ module _ (s : Settings) (p : Picture) (ok : IsAccepted s) where
       let alerts = is.alerts in let answers = is.answers in let lasts = is.lasts in let recoveries = is.recoveries in
       let bands : Kind → Text = λ kind. flat_map (λ band. band_line kind band.from band.upto band.level) (is.bands kind) in
       let resolutions : Kind → Text = λ kind. resolve_line kind (answers kind Lower) (answers kind Upper) in
-      let bt = bands Track in let bs = bands Speed in let bc = bands Climb in let bh = bands Height in
-      let at = resolutions Track in let as' = resolutions Speed in let ac = resolutions Climb in let ah = resolutions Height in
-      let lt = lasts Track in let ls = lasts Speed in let lc = lasts Climb in let lh = lasts Height in
-      let rt = recoveries Track in let rs = recoveries Speed in let rc = recoveries Climb in let rh = recoveries Height in
+      let bt = bands Track in let bs = bands GroundSpeed in let bc = bands VerticalSpeed in let bh = bands Altitude in
+      let at = resolutions Track in let as' = resolutions GroundSpeed in let ac = resolutions VerticalSpeed in let ah = resolutions Altitude in
+      let lt = lasts Track in let ls = lasts GroundSpeed in let lc = lasts VerticalSpeed in let lh = lasts Altitude in
+      let rt = recoveries Track in let rs = recoveries GroundSpeed in let rc = recoveries VerticalSpeed in let rh = recoveries Altitude in
       let m = numbers_line (codes "moment") (p.time ∷ []) in let d = numbers_line (codes "done") (p.time ∷ []) in
       omega (
         arith,
@@ -427,29 +427,29 @@ module _ (s : Settings) (p : Picture) (ok : IsAccepted s) where
         done_short p.time t,
         alerts_short (aircraft_of p) (recursion_from_All IsTrafficInRange (aircraft_of p) r.traffic) alerts is.alerts_are,
         kind_short Track (is.bands Track) (is.bands_are Track),
-        kind_short Speed (is.bands Speed) (is.bands_are Speed),
-        kind_short Climb (is.bands Climb) (is.bands_are Climb),
-        kind_short Height (is.bands Height) (is.bands_are Height),
+        kind_short GroundSpeed (is.bands GroundSpeed) (is.bands_are GroundSpeed),
+        kind_short VerticalSpeed (is.bands VerticalSpeed) (is.bands_are VerticalSpeed),
+        kind_short Altitude (is.bands Altitude) (is.bands_are Altitude),
         resolutions_short Track (answers Track) (is.answers_are Track),
-        resolutions_short Speed (answers Speed) (is.answers_are Speed),
-        resolutions_short Climb (answers Climb) (is.answers_are Climb),
-        resolutions_short Height (answers Height) (is.answers_are Height),
+        resolutions_short GroundSpeed (answers GroundSpeed) (is.answers_are GroundSpeed),
+        resolutions_short VerticalSpeed (answers VerticalSpeed) (is.answers_are VerticalSpeed),
+        resolutions_short Altitude (answers Altitude) (is.answers_are Altitude),
         last_text_short s.last_times (answers Track Lower) Track lt (is.lasts_are Track),
-        last_text_short s.last_times (answers Speed Lower) Speed ls (is.lasts_are Speed),
-        last_text_short s.last_times (answers Climb Lower) Climb lc (is.lasts_are Climb),
-        last_text_short s.last_times (answers Height Lower) Height lh (is.lasts_are Height),
+        last_text_short s.last_times (answers GroundSpeed Lower) GroundSpeed ls (is.lasts_are GroundSpeed),
+        last_text_short s.last_times (answers VerticalSpeed Lower) VerticalSpeed lc (is.lasts_are VerticalSpeed),
+        last_text_short s.last_times (answers Altitude Lower) Altitude lh (is.lasts_are Altitude),
         recovery_short (is_some s.recovery) (answers Track Lower) (answers Track Upper) Track rt (is.recoveries_are Track),
-        recovery_short (is_some s.recovery) (answers Speed Lower) (answers Speed Upper) Speed rs (is.recoveries_are Speed),
-        recovery_short (is_some s.recovery) (answers Climb Lower) (answers Climb Upper) Climb rc (is.recoveries_are Climb),
-        recovery_short (is_some s.recovery) (answers Height Lower) (answers Height Upper) Height rh (is.recoveries_are Height),
+        recovery_short (is_some s.recovery) (answers GroundSpeed Lower) (answers GroundSpeed Upper) GroundSpeed rs (is.recoveries_are GroundSpeed),
+        recovery_short (is_some s.recovery) (answers VerticalSpeed Lower) (answers VerticalSpeed Upper) VerticalSpeed rc (is.recoveries_are VerticalSpeed),
+        recovery_short (is_some s.recovery) (answers Altitude Lower) (answers Altitude Upper) Altitude rh (is.recoveries_are Altitude),
         length-values Track s,
-        length-values Speed s,
-        length-values Climb s,
-        length-values Height s,
+        length-values GroundSpeed s,
+        length-values VerticalSpeed s,
+        length-values Altitude s,
         few_tracks s,
-        few_of_kind s Speed ok,
-        few_of_kind s Climb ok,
-        few_of_kind s Height ok,
+        few_of_kind s GroundSpeed ok,
+        few_of_kind s VerticalSpeed ok,
+        few_of_kind s Altitude ok,
         length-append m (alerts ++ (of_each bands ++ (of_each resolutions ++ (of_each lasts ++ (of_each recoveries ++ d))))),
         length-append alerts (of_each bands ++ (of_each resolutions ++ (of_each lasts ++ (of_each recoveries ++ d)))),
         length-append (of_each bands) (of_each resolutions ++ (of_each lasts ++ (of_each recoveries ++ d))),

@@ -6,7 +6,7 @@ use Rattle.std.proofs.lemmas.Bool.{cases_lt}
 use Rattle.daa_config.specs.Candidates.{candidates_of}
 use Rattle.daa_config.specs.Settings.{Settings, IsAccepted}
 use Rattle.daa_config.specs.declared.kind.Kind.{Kind}
-use Rattle.daa_config.specs.declared.kind.Kind.TheVariants.{Track, Speed, Climb, Height}
+use Rattle.daa_config.specs.declared.kind.Kind.TheVariants.{Track, GroundSpeed, VerticalSpeed, Altitude}
 use Rattle.daa_config.specs.declared.candidate.Resolution.{Resolution}
 use Rattle.daa_config.specs.declared.candidate.Resolution.TheVariants.{Keep, To, Nothing}
 use Rattle.daa_recovery.specs.declared.recovery.Recovery.{Recovery}
@@ -76,7 +76,7 @@ module _ (s : Settings) (p : Picture) where
       (subst (λ (r : Resolution). IsRecoveryText s p asked lower' r kind a) f (subst (λ (r : Resolution). IsRecoveryText s p asked r upper kind a) e h)) k
 
   each_only : (f g : Kind → Text) → ((kind : Kind) → f kind ≡ g kind) → of_each f ≡ of_each g
-  each_only f g e = let t = e Track in let s' = e Speed in let c = e Climb in let h = e Height in cc
+  each_only f g e = let t = e Track in let s' = e GroundSpeed in let c = e VerticalSpeed in let h = e Altitude in cc
 
   pub text_only : IsAccepted s → (a b : Text) → IsMomentText s p a → IsMomentText s p b → a ≡ b
   text_only ok a b h k =

@@ -5,7 +5,7 @@ use Rattle.std.specs.List.{flat_map}
 use Rattle.daa_config.specs.Settings.{Settings}
 use Rattle.daa_config.specs.declared.candidate.Resolution.{Resolution}
 use Rattle.daa_config.specs.declared.kind.Kind.{Kind}
-use Rattle.daa_config.specs.declared.kind.Kind.TheVariants.{Track, Speed, Climb, Height}
+use Rattle.daa_config.specs.declared.kind.Kind.TheVariants.{Track, GroundSpeed, VerticalSpeed, Altitude}
 use Rattle.daa_state.specs.declared.word.Picture.{Picture}
 use Rattle.daa_resolve.specs.declared.side.Side.TheVariants.{Lower, Upper}
 use Rattle.daa_report.specs.Lines.{Text, numbers_line, resolve_line}
@@ -20,7 +20,7 @@ not_asked (Some x) e = absurd (cc e)
 
 -- four texts without a byte are one
 none_each : (texts : Kind → Text) → ((kind : Kind) → texts kind ≡ []) → of_each texts ≡ []
-none_each texts none = λ i. none Track i ++ (none Speed i ++ (none Climb i ++ none Height i))
+none_each texts none = λ i. none Track i ++ (none GroundSpeed i ++ (none VerticalSpeed i ++ none Altitude i))
 
 module _ (s : Settings) (p : Picture) (unasked : s.last_times ≡ false) where
   -- no kind has a line of its last time

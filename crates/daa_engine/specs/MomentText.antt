@@ -5,7 +5,7 @@ use Rattle.daa_config.specs.Settings.{Settings}
 use Rattle.daa_config.specs.declared.candidate.Resolution.{Resolution}
 use Rattle.daa_config.specs.declared.candidate.Resolution.TheVariants.{Keep, Nothing}
 use Rattle.daa_config.specs.declared.kind.Kind.{Kind}
-use Rattle.daa_config.specs.declared.kind.Kind.TheVariants.{Track, Speed, Climb, Height}
+use Rattle.daa_config.specs.declared.kind.Kind.TheVariants.{Track, GroundSpeed, VerticalSpeed, Altitude}
 use Rattle.daa_state.specs.Picture.{aircraft_of}
 use Rattle.daa_state.specs.declared.word.Picture.{Picture}
 use Rattle.daa_state.specs.declared.word.Traffic.{Traffic}
@@ -26,7 +26,7 @@ use Rattle.daa_engine.specs.Covered.{CoveredAt}
 
 -- a text for each kind, in the order of the report
 abbrev pub of_each : (Kind → Text) → Text
-of_each text = text Track ++ (text Speed ++ (text Climb ++ text Height))
+of_each text = text Track ++ (text GroundSpeed ++ (text VerticalSpeed ++ text Altitude))
 
 module _ (settings : Settings) (picture : Picture) where
   -- the two lines of an aircraft: its level now, and its alert with the first leg

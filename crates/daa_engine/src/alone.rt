@@ -29,7 +29,7 @@ use daa_bands::{Board, Runs, runs};
 use daa_config::{Config, Kind, Resolution};
 use daa_last::last_of;
 use daa_legs::{Branch, Trunk};
-use daa_outside::Sink;
+use daa_io::Sink;
 use daa_recovery::{Recovery, least};
 use daa_report::SinkFault;
 use daa_resolve::{Side, nearest};

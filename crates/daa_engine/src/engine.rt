@@ -20,7 +20,7 @@ use crate::together::Crew;
 use daa_alert::{Alert, alert};
 use daa_bands::Board;
 use daa_config::Config;
-use daa_outside::{Gate, Sink};
+use daa_io::{Gate, Sink};
 use daa_report::SinkFault;
 use daa_schedule::NoMemory;
 use daa_state::Picture;

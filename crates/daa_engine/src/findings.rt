@@ -45,9 +45,9 @@ pub(crate) fn find(config: &Config, picture: &Picture, board: &Board) -> Finding
 {
     Findings {
         track: find_kind(config, picture, board, Kind::Track),
-        speed: find_kind(config, picture, board, Kind::Speed),
-        climb: find_kind(config, picture, board, Kind::Climb),
-        height: find_kind(config, picture, board, Kind::Height),
+        speed: find_kind(config, picture, board, Kind::GroundSpeed),
+        climb: find_kind(config, picture, board, Kind::VerticalSpeed),
+        height: find_kind(config, picture, board, Kind::Altitude),
     }
 }
 

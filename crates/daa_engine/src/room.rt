@@ -15,7 +15,7 @@ use crate::together::{Crew, fill_together};
 use daa_bands::Board;
 use daa_config::Config;
 use daa_legs::{Branch, Trunk};
-use daa_outside::{Gate, Sink};
+use daa_io::{Gate, Sink};
 use daa_report::SinkFault;
 use daa_schedule::NoMemory;
 use daa_state::Picture;

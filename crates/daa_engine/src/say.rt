@@ -14,7 +14,7 @@ use crate::alerts::AircraftAlert;
 use crate::findings::{Finding, Findings};
 use daa_bands::{Band, Board, runs};
 use daa_config::{Config, Kind};
-use daa_outside::Sink;
+use daa_io::Sink;
 use daa_report::{HeldLines, Line, SinkFault};
 use daa_state::{Picture, Traffic};
 
@@ -156,7 +156,7 @@ fn say_recovery<K: Sink>(
 
 /// A part of the report that has lines of each kind.
 #[derive(Clone, Copy)]
-enum Part {
+enum Section {
     Bands,
     Resolutions,
     LastTimes,
@@ -169,7 +169,7 @@ fn say_kind<K: Sink>(
     sink: &mut K,
     config: &Config,
     board: &Board,
-    part: Part,
+    part: Section,
     kind: Kind,
     finding: &Finding,
 ) -> Result<(), SinkFault>
@@ -178,10 +178,10 @@ fn say_kind<K: Sink>(
         (kind_text config.now board.now part kind finding.now) result }
 {
     match part {
-        Part::Bands => say_bands(held, sink, board, config, kind),
-        Part::Resolutions => say_sides(held, sink, kind, finding),
-        Part::LastTimes => say_last(held, sink, kind, finding.last),
-        Part::Recoveries => say_recovery(held, sink, kind, finding.recovery),
+        Section::Bands => say_bands(held, sink, board, config, kind),
+        Section::Resolutions => say_sides(held, sink, kind, finding),
+        Section::LastTimes => say_last(held, sink, kind, finding.last),
+        Section::Recoveries => say_recovery(held, sink, kind, finding.recovery),
     }
 }
 
@@ -191,7 +191,7 @@ fn say_kinds<K: Sink>(
     sink: &mut K,
     config: &Config,
     board: &Board,
-    part: Part,
+    part: Section,
     findings: &Findings,
 ) -> Result<(), SinkFault>
     ensures { SaysOrHolds (K.taken sink.old) (K.taken sink.new) held.old held.new
@@ -213,7 +213,7 @@ fn say_kinds<K: Sink>(
         config,
         board,
         part,
-        Kind::Speed,
+        Kind::GroundSpeed,
         &findings.speed,
     )?;
     say_kind(
@@ -222,7 +222,7 @@ fn say_kinds<K: Sink>(
         config,
         board,
         part,
-        Kind::Climb,
+        Kind::VerticalSpeed,
         &findings.climb,
     )?;
     say_kind(
@@ -231,7 +231,7 @@ fn say_kinds<K: Sink>(
         config,
         board,
         part,
-        Kind::Height,
+        Kind::Altitude,
         &findings.height,
     )
 }
@@ -288,10 +288,10 @@ fn say_parts<K: Sink>(
     say_head(held, sink, picture)?;
     say_traffic(held, sink, picture, alerts)?;
     held.flush(sink)?;
-    say_kinds(held, sink, config, board, Part::Bands, findings)?;
-    say_kinds(held, sink, config, board, Part::Resolutions, findings)?;
-    say_kinds(held, sink, config, board, Part::LastTimes, findings)?;
-    say_kinds(held, sink, config, board, Part::Recoveries, findings)?;
+    say_kinds(held, sink, config, board, Section::Bands, findings)?;
+    say_kinds(held, sink, config, board, Section::Resolutions, findings)?;
+    say_kinds(held, sink, config, board, Section::LastTimes, findings)?;
+    say_kinds(held, sink, config, board, Section::Recoveries, findings)?;
     say_foot(held, sink, picture)
 }
 

@@ -9,7 +9,7 @@ mod workers;
 use daa_config::examples::ONE_LEVEL;
 use daa_config::{Config, Kind, read};
 use daa_engine::{Engine, Room};
-use daa_outside::{MemSink, Open};
+use daa_io::{MemSink, Open};
 use daa_recovery::Recovery;
 use daa_state::examples::{ABEAM, NORTH};
 use daa_state::{Moments, Picture, read_line};
@@ -167,7 +167,7 @@ fn the_last_time_and_the_recovery_of_a_kind(rt: HostRuntime) -> Result<(), Fail>
     let engine = engine_of(&rt, ONE_LEVEL, &WAITING)?;
     let picture = picture_in(&[NORTH, "traffic A 0 4000 1000 0 -3600 0 0"]).ok_or("a moment")?;
     assert!(rt; engine.last_time(&picture, Kind::Track) == Some(3));
-    assert!(rt; engine.last_time(&picture, Kind::Speed) == None);
+    assert!(rt; engine.last_time(&picture, Kind::GroundSpeed) == None);
     let edits = [
         ("tthr = 35", "tthr = 0"),
         (
@@ -180,7 +180,7 @@ fn the_last_time_and_the_recovery_of_a_kind(rt: HostRuntime) -> Result<(), Fail>
     if engine.config().recovery().is_none() {
         return Err("a recovery".into());
     }
-    for (kind, after, value) in [(Kind::Track, 6, 270), (Kind::Speed, 7, 3600)] {
+    for (kind, after, value) in [(Kind::Track, 6, 270), (Kind::GroundSpeed, 7, 3600)] {
         let wanted = Some(Recovery { after, value });
         assert!(rt; engine.recovery(&picture, kind) == wanted);
     }

@@ -15,7 +15,7 @@ use Rattle.daa_bands.proofs.KindLemmas.{greatest_covered}
 use Rattle.daa_config.specs.Candidates.{start_of}
 use Rattle.daa_config.specs.Settings.{Settings, IsAccepted}
 use Rattle.daa_config.specs.declared.kind.Kind.{Kind}
-use Rattle.daa_config.specs.declared.kind.Kind.TheVariants.{Track, Speed, Climb, Height}
+use Rattle.daa_config.specs.declared.kind.Kind.TheVariants.{Track, GroundSpeed, VerticalSpeed, Altitude}
 use Rattle.daa_config.proofs.CandidateLemmas.{kind_within}
 use Rattle.daa_config.proofs.GridLemmas.{few_of_kind, length-values}
 use Rattle.daa_legs.specs.Alerts.{IsAlertLevel}
@@ -119,9 +119,9 @@ all_next s output ok time count picture old new in' is h k = record {
   few = (let e = k.aircraft in let f = h.few in let m = in'.count in omega (arith, e, f, m));
   alerts = counted_next (HasAlerts s) output time count picture old.alerts new.alerts (alerts_few s picture in') is h.alerts k.alerts;
   track = counted_next (λ p. HasShown s p Track) output time count picture old.track new.track (shown_few s picture Track ok) is h.track k.track;
-  speed = counted_next (λ p. HasShown s p Speed) output time count picture old.speed new.speed (shown_few s picture Speed ok) is h.speed k.speed;
-  climb = counted_next (λ p. HasShown s p Climb) output time count picture old.climb new.climb (shown_few s picture Climb ok) is h.climb k.climb;
-  height = counted_next (λ p. HasShown s p Height) output time count picture old.height new.height (shown_few s picture Height ok) is h.height k.height;
+  speed = counted_next (λ p. HasShown s p GroundSpeed) output time count picture old.speed new.speed (shown_few s picture GroundSpeed ok) is h.speed k.speed;
+  climb = counted_next (λ p. HasShown s p VerticalSpeed) output time count picture old.climb new.climb (shown_few s picture VerticalSpeed ok) is h.climb k.climb;
+  height = counted_next (λ p. HasShown s p Altitude) output time count picture old.height new.height (shown_few s picture Altitude ok) is h.height k.height;
 }
 
 pub roomy : (s : Settings) (output : Outputs) (time count : ℕ) (counts : Counts) → count < 10000 → AreCounted s output time count counts → IsRoomy counts
@@ -129,9 +129,9 @@ roomy s output time count counts lt h = record {
   aircraft = (let f = h.few in omega (arith, f, lt));
   alerts = room_for 64 512 counts.alerts (omega arith) (room_of (HasAlerts s) output time count counts.alerts lt h.alerts);
   track = room_of (λ p. HasShown s p Track) output time count counts.track lt h.track;
-  speed = room_of (λ p. HasShown s p Speed) output time count counts.speed lt h.speed;
-  climb = room_of (λ p. HasShown s p Climb) output time count counts.climb lt h.climb;
-  height = room_of (λ p. HasShown s p Height) output time count counts.height lt h.height;
+  speed = room_of (λ p. HasShown s p GroundSpeed) output time count counts.speed lt h.speed;
+  climb = room_of (λ p. HasShown s p VerticalSpeed) output time count counts.climb lt h.climb;
+  height = room_of (λ p. HasShown s p Altitude) output time count counts.height lt h.height;
 }
 
 -- ---- what is written of the counts is the summary
@@ -181,9 +181,9 @@ first_aircraft output count = refl
 module _ (s : Settings) (seed moments : ℕ) (counts : Counts) (h : AreCounted s (outputs_of seed) 0 moments counts) where
   shown : Kind → List ℕ
   shown Track = h.track.levels
-  shown Speed = h.speed.levels
-  shown Climb = h.climb.levels
-  shown Height = h.height.levels
+  shown GroundSpeed = h.speed.levels
+  shown VerticalSpeed = h.climb.levels
+  shown Altitude = h.height.levels
 
   abbrev pictures : List Picture
   pictures = first_moments (outputs_of seed) moments
@@ -191,16 +191,16 @@ module _ (s : Settings) (seed moments : ℕ) (counts : Counts) (h : AreCounted s
   are_shown : (kind : Kind) → SplitsByEach (λ (picture : Picture). HasShown s picture kind) pictures (shown kind)
   unfolding shown
   are_shown Track = first_levels (λ p. HasShown s p Track) (outputs_of seed) moments h.track.levels h.track.are
-  are_shown Speed = first_levels (λ p. HasShown s p Speed) (outputs_of seed) moments h.speed.levels h.speed.are
-  are_shown Climb = first_levels (λ p. HasShown s p Climb) (outputs_of seed) moments h.climb.levels h.climb.are
-  are_shown Height = first_levels (λ p. HasShown s p Height) (outputs_of seed) moments h.height.levels h.height.are
+  are_shown GroundSpeed = first_levels (λ p. HasShown s p GroundSpeed) (outputs_of seed) moments h.speed.levels h.speed.are
+  are_shown VerticalSpeed = first_levels (λ p. HasShown s p VerticalSpeed) (outputs_of seed) moments h.climb.levels h.climb.are
+  are_shown Altitude = first_levels (λ p. HasShown s p Altitude) (outputs_of seed) moments h.height.levels h.height.are
 
   tallied : (kind : Kind) → tally_of counts kind ≡ counts_of mask_levels (shown kind)
   unfolding shown
   tallied Track = h.track.counted
-  tallied Speed = h.speed.counted
-  tallied Climb = h.climb.counted
-  tallied Height = h.height.counted
+  tallied GroundSpeed = h.speed.counted
+  tallied VerticalSpeed = h.climb.counted
+  tallied Altitude = h.height.counted
 
   -- the counts up to the top level
   counted_upto : (top : ℕ) (tally levels : List ℕ) → top ≡ length s.levels → top ≤ 8 → tally ≡ counts_of mask_levels levels

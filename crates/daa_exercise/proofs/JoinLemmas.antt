@@ -7,18 +7,18 @@ use Rattle.std.proofs.lemmas.List.FromFn.{fill_by_all, get_or-map-range_with_len
 use Rattle.std.proofs.lemmas.List.Sums.{sum_by-append}
 use Rattle.daa_bands.specs.Board.{mask_levels}
 use Rattle.daa_config.specs.Settings.{Settings, IsAccepted}
-use Rattle.daa_config.specs.declared.kind.Kind.TheVariants.{Track, Speed, Climb, Height}
+use Rattle.daa_config.specs.declared.kind.Kind.TheVariants.{Track, GroundSpeed, VerticalSpeed, Altitude}
 use Rattle.daa_state.specs.InRange.{IsPictureInRange}
 use Rattle.daa_state.specs.Picture.{aircraft_of}
 use Rattle.daa_state.specs.declared.word.Picture.{Picture}
 use Rattle.daa_exercise.specs.Inside.Counting.{Adds, AddsUp, AreCounted, AreLevelsFrom, CountsPicture, HasAlerts, HasCounted, HasRoomFor, HasShown, HaveAllRoom, HaveRoom}
 use Rattle.daa_exercise.specs.Inside.Counting.{Joins, aircraft_from}
-use Rattle.daa_exercise.specs.Inside.Parts.{IsPart}
+use Rattle.daa_exercise.specs.Inside.Stints.{IsStint}
 use Rattle.daa_exercise.specs.Levels.{counts_of}
 use Rattle.daa_exercise.specs.Moments.{moment_of}
 use Rattle.daa_exercise.specs.Inside.Drawing.{Outputs}
 use Rattle.daa_exercise.specs.Outputs.{outputs_of}
-use Rattle.daa_exercise.specs.declared.clerk.Part.{Part}
+use Rattle.daa_exercise.specs.declared.clerk.Stint.{Stint}
 use Rattle.daa_exercise.specs.declared.counting.Counts.{Counts}
 use Rattle.daa_exercise.proofs.CountLemmas.{aircraft_from_next, aircraft_from_none, all_next, count_few, how_often}
 use Rattle.daa_exercise.proofs.RangeLemmas.{moment_range}
@@ -131,9 +131,9 @@ module _ (s : Settings) (output : Outputs) where
     few = (let e = adds.aircraft in let x = h.few in let y = k.few in omega (arith, e, x, y));
     alerts = counted_joined (HasAlerts s) output time n m a.alerts b.alerts c.alerts h.alerts k.alerts adds.alerts;
     track = counted_joined (λ p. HasShown s p Track) output time n m a.track b.track c.track h.track k.track adds.track;
-    speed = counted_joined (λ p. HasShown s p Speed) output time n m a.speed b.speed c.speed h.speed k.speed adds.speed;
-    climb = counted_joined (λ p. HasShown s p Climb) output time n m a.climb b.climb c.climb h.climb k.climb adds.climb;
-    height = counted_joined (λ p. HasShown s p Height) output time n m a.height b.height c.height h.height k.height adds.height;
+    speed = counted_joined (λ p. HasShown s p GroundSpeed) output time n m a.speed b.speed c.speed h.speed k.speed adds.speed;
+    climb = counted_joined (λ p. HasShown s p VerticalSpeed) output time n m a.climb b.climb c.climb h.climb k.climb adds.climb;
+    height = counted_joined (λ p. HasShown s p Altitude) output time n m a.height b.height c.height h.height k.height adds.height;
   }
 
   -- a part, and what is counted from its end on
@@ -154,9 +154,9 @@ module _ (s : Settings) (output : Outputs) where
         aircraft = (let x = h.few in let y = k.few in omega (arith, x, y, sum));
         alerts = room_beside (HasAlerts s) output from upto n m a.alerts b.alerts sum h.alerts k.alerts;
         track = room_beside (λ p. HasShown s p Track) output from upto n m a.track b.track sum h.track k.track;
-        speed = room_beside (λ p. HasShown s p Speed) output from upto n m a.speed b.speed sum h.speed k.speed;
-        climb = room_beside (λ p. HasShown s p Climb) output from upto n m a.climb b.climb sum h.climb k.climb;
-        height = room_beside (λ p. HasShown s p Height) output from upto n m a.height b.height sum h.height k.height;
+        speed = room_beside (λ p. HasShown s p GroundSpeed) output from upto n m a.speed b.speed sum h.speed k.speed;
+        climb = room_beside (λ p. HasShown s p VerticalSpeed) output from upto n m a.climb b.climb sum h.climb k.climb;
+        height = room_beside (λ p. HasShown s p Altitude) output from upto n m a.height b.height sum h.height k.height;
       }
 
 -- ---- one moment more
@@ -187,7 +187,7 @@ none_between s output time counts h =
 
 -- ---- one part more
 
-module _ (s : Settings) (seed left end : ℕ) (part : Part) (counts : Counts) (is : IsPart s seed part) (at : part.upto ≡ left) (low : left ≤ end)
+module _ (s : Settings) (seed left end : ℕ) (part : Stint) (counts : Counts) (is : IsStint s seed part) (at : part.upto ≡ left) (low : left ≤ end)
     (h : AreCounted s (outputs_of seed) left (end - left) counts) where
   from_there : AreCounted s (outputs_of seed) part.upto (end - part.upto) counts
   from_there = subst (λ (t : ℕ). AreCounted s (outputs_of seed) t (end - t) counts) (sym at) h
@@ -210,7 +210,7 @@ all_gathered s output left end counts none h =
     subst (λ (n : ℕ). AreCounted s output 0 n counts) all (subst (λ (t : ℕ). AreCounted s output t (end - left) counts) at h)
 
 -- the parts of a clerk, and one that it counted of a sequence of the same seed
-pub parts_pushed : (s : Settings) (seed other : ℕ) (parts all : List Part) (part : Part) → all ≡ parts ++ part ∷ [] → other ≡ seed → All (IsPart s seed) parts
-    → IsPart s other part → All (IsPart s seed) all
+pub parts_pushed : (s : Settings) (seed other : ℕ) (parts all : List Stint) (part : Stint) → all ≡ parts ++ part ∷ [] → other ≡ seed → All (IsStint s seed) parts
+    → IsStint s other part → All (IsStint s seed) all
 parts_pushed s seed other parts all part e same are is =
-    subst (All (IsPart s seed)) (sym e) (All-push (IsPart s seed) parts part are (subst (λ (n : ℕ). IsPart s n part) same is))
+    subst (All (IsStint s seed)) (sym e) (All-push (IsStint s seed) parts part are (subst (λ (n : ℕ). IsStint s n part) same is))

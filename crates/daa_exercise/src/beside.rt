@@ -2,15 +2,15 @@
 
 ghost use Rattle.std.specs.Prelude.{◌≡◌, ◌≤◌, ◌<◌, All, length};
 ghost use Rattle.daa_exercise.specs.Inside.Counting.{AreCounted};
-ghost use Rattle.daa_exercise.specs.Inside.Parts.{HasParts, IsPart};
+ghost use Rattle.daa_exercise.specs.Inside.Stints.{HasStints, IsStint};
 ghost use Rattle.daa_exercise.specs.Outputs.{outputs_of};
 
-use crate::clerk::{Clerk, FOR_ONE_TICKET, Part};
+use crate::clerk::{Clerk, FOR_ONE_TICKET, Stint};
 use crate::counting::Counts;
 use crate::sequence::Sequence;
 use daa_config::Config;
 use daa_engine::{Tickets, workers_for};
-use daa_outside::Gate;
+use daa_io::Gate;
 use std::alloc::Global;
 use std::thread;
 use std::thread::Threads;
@@ -54,7 +54,7 @@ fn work_all<R: Threads + Sync, G: Gate>(
 )
     requires some { 1 ≤ length clerks.old }
     requires few { moments ≤ 10000 }
-    ensures { All (HasParts config.now seed) clerks.new }
+    ensures { All (HasStints config.now seed) clerks.new }
 {
     let count = clerks.len();
     let tickets = Tickets::new();
@@ -64,20 +64,20 @@ fn work_all<R: Threads + Sync, G: Gate>(
         count,
         &|_number: usize, clerk: &mut Clerk|
             requires { moments ≤ 10000 }
-            ensures { HasParts config.entry.now seed clerk.exit.now }
+            ensures { HasStints config.entry.now seed clerk.exit.now }
         { clerk.work(config, seed, moments, &tickets, gate) },
     );
 }
 
 /// The part that ends at a time. If no clerk has one, it is counted: the moment before that time.
-fn part_upto<G: Gate>(config: &Config, clerks: &mut [Clerk], seed: u32, time: u32, gate: &G) -> Part
+fn part_upto<G: Gate>(config: &Config, clerks: &mut [Clerk], seed: u32, time: u32, gate: &G) -> Stint
     requires some { 1 ≤ length clerks.old }
     requires early { 0 < time }
     requires few { time ≤ 10000 }
-    requires parts { All (HasParts config.now seed) clerks.old }
-    ensures part { IsPart config.now seed result }
+    requires parts { All (HasStints config.now seed) clerks.old }
+    ensures part { IsStint config.now seed result }
     ensures upto { result.upto ≡ time }
-    ensures parts { All (HasParts config.now seed) clerks.new }
+    ensures parts { All (HasStints config.now seed) clerks.new }
     ensures same_size { length clerks.new ≡ length clerks.old }
 {
     for place in 0..clerks.len() {
@@ -101,7 +101,7 @@ fn gather<G: Gate>(
 ) -> Counts
     requires some { 1 ≤ length clerks.old }
     requires few { moments ≤ 10000 }
-    requires parts { All (HasParts config.now seed) clerks.old }
+    requires parts { All (HasStints config.now seed) clerks.old }
     ensures { AreCounted config.now (outputs_of seed) 0 moments result }
 {
     let mut counts = Counts::new();

@@ -3,7 +3,7 @@
 ghost use Rattle.std.specs.Prelude.{◌≡◌, ◌≤◌, ◌<◌, ◌+◌, ℕ, All, IfSome};
 ghost use Rattle.daa_config.specs.Settings.{Settings};
 ghost use Rattle.daa_exercise.specs.Inside.Counting.{CountsPicture, IsRoomy};
-ghost use Rattle.daa_exercise.specs.Inside.Parts.{IsPart};
+ghost use Rattle.daa_exercise.specs.Inside.Stints.{IsStint};
 ghost use Rattle.daa_exercise.specs.Moments.{moment_of};
 ghost use Rattle.daa_exercise.specs.Outputs.{outputs_of};
 
@@ -12,7 +12,7 @@ use crate::sequence::{Sequence, empty_picture};
 use daa_bands::Board;
 use daa_config::Config;
 use daa_engine::{Room, Tickets};
-use daa_outside::Gate;
+use daa_io::Gate;
 use daa_state::Picture;
 use std::alloc::Global;
 
@@ -21,7 +21,7 @@ pub(crate) const FOR_ONE_TICKET: u32 = 8;
 
 /// What is counted of the moments from one time up to another.
 #[derive(Drop)]
-pub(crate) struct Part {
+pub(crate) struct Stint {
     pub(crate) from: u32,
     pub(crate) upto: u32,
     pub(crate) counts: Counts,
@@ -40,7 +40,7 @@ pub(crate) struct Workspace {
 #[derive(Drop)]
 pub(crate) struct Clerk {
     pub(crate) workspace: Workspace,
-    pub(crate) parts: Vec<Part>,
+    pub(crate) parts: Vec<Stint>,
 }
 
 /// The time of the first moment of the next ticket, if it is among so many.
@@ -80,10 +80,10 @@ impl Workspace {
         from: u32,
         upto: u32,
         gate: &G,
-    ) -> Part
+    ) -> Stint
         requires some { from < upto }
         requires few { upto ≤ 10000 }
-        ensures part { IsPart config.now sequence.old.seed result }
+        ensures part { IsStint config.now sequence.old.seed result }
         ensures from { result.from ≡ from }
         ensures upto { result.upto ≡ upto }
         ensures seed { sequence.new.seed ≡ sequence.old.seed }
@@ -96,7 +96,7 @@ impl Workspace {
             gate.pass(self.number, time);
             self.count_next(config, sequence, &mut counts);
         }
-        Part { from, upto, counts }
+        Stint { from, upto, counts }
     }
 }
 
@@ -125,7 +125,7 @@ impl Clerk {
         gate: &G,
     )
         requires { moments ≤ 10000 }
-        ensures { All (IsPart config.now seed) self.new.parts.items }
+        ensures { All (IsStint config.now seed) self.new.parts.items }
     {
         let mut sequence = Sequence::of(seed);
         self.parts.clear();
@@ -142,13 +142,13 @@ impl Clerk {
     }
 
     /// Gives its last part away, if it ends at a time.
-    pub(crate) fn part_upto(&mut self, time: u32) -> Option<Part>
+    pub(crate) fn part_upto(&mut self, time: u32) -> Option<Stint>
         ensures part { (settings : Settings) (seed : ℕ)
-            → All (IsPart settings seed) self.old.parts.items
-            → IfSome result (IsPart settings seed) }
+            → All (IsStint settings seed) self.old.parts.items
+            → IfSome result (IsStint settings seed) }
         ensures kept { (settings : Settings) (seed : ℕ)
-            → All (IsPart settings seed) self.old.parts.items
-            → All (IsPart settings seed) self.new.parts.items }
+            → All (IsStint settings seed) self.old.parts.items
+            → All (IsStint settings seed) self.new.parts.items }
         ensures upto { IfSome result (λ part. part.upto ≡ time) }
     {
         if self.parts.last()?.upto == time {

@@ -59,9 +59,9 @@ impl Counts {
         self.aircraft += picture.traffic.len() as u32;
         count_alerts(&mut self.alerts, config, picture);
         count_shown(&mut self.track, config, board, Kind::Track);
-        count_shown(&mut self.speed, config, board, Kind::Speed);
-        count_shown(&mut self.climb, config, board, Kind::Climb);
-        count_shown(&mut self.height, config, board, Kind::Height);
+        count_shown(&mut self.speed, config, board, Kind::GroundSpeed);
+        count_shown(&mut self.climb, config, board, Kind::VerticalSpeed);
+        count_shown(&mut self.height, config, board, Kind::Altitude);
     }
 
     /// Counts what others counted besides.

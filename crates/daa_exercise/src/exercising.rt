@@ -12,7 +12,7 @@ use crate::counting::Counts;
 use crate::sequence::{Sequence, empty_picture};
 use crate::summary::summary;
 use daa_engine::Engine;
-use daa_outside::{Gate, Sink};
+use daa_io::{Gate, Sink};
 use daa_report::{SinkFault, put};
 use daa_state::Picture;
 use std::alloc::Global;

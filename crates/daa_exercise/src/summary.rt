@@ -23,9 +23,9 @@ pub(crate) fn summary(seed: u32, moments: u32, top: u32, counts: &Counts) -> Arr
     add(&mut text, &Line::numbers("aircraft", &[counts.aircraft]));
     add(&mut text, &Line::numbers("alert", counts.alerts.upto(top)));
     add_kind(&mut text, Kind::Track, &counts.track, top);
-    add_kind(&mut text, Kind::Speed, &counts.speed, top);
-    add_kind(&mut text, Kind::Climb, &counts.climb, top);
-    add_kind(&mut text, Kind::Height, &counts.height, top);
+    add_kind(&mut text, Kind::GroundSpeed, &counts.speed, top);
+    add_kind(&mut text, Kind::VerticalSpeed, &counts.climb, top);
+    add_kind(&mut text, Kind::Altitude, &counts.height, top);
     add(&mut text, &Line::numbers("done", &[]));
     text
 }

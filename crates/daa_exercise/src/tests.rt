@@ -8,7 +8,7 @@ use crate::sequence::{Sequence, empty_picture};
 use daa_config::examples::ONE_LEVEL;
 use daa_config::read;
 use daa_engine::Engine;
-use daa_outside::{Gate, Meeting, MemSink, Open};
+use daa_io::{Gate, Meeting, MemSink, Open};
 use daa_report::SinkFault;
 use daa_state::{Id, Own, Picture, Traffic};
 use std::alloc::Global;

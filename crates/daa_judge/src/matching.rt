@@ -10,7 +10,7 @@ ghost use Rattle.daa_judge.specs.Inside.Stepping.{Steps, found_at, longest_read}
 use crate::found::Found;
 use crate::pieces::{common, line_feeds};
 use daa_ahead::{BUFFER, Ended, Next, read_next};
-use daa_outside::Source;
+use daa_io::Source;
 
 /// The state of a comparison: how many bytes may still be read, and the number of the line, from 1
 /// on, that the next byte is in.

@@ -3,7 +3,7 @@
 ghost use Rattle.std.specs.Prelude.{◌≡◌, ◌≤◌, ◌<◌, ◌+◌, ◌++◌, [], IfOk, length, take};
 ghost use Rattle.daa_judge.specs.Sheet.{IsSheet, sheet_room};
 
-use daa_outside::{Failed, Sink};
+use daa_io::{Failed, Sink};
 use std::alloc::Global;
 use std::marker::Model;
 use thiserror::Error;
@@ -97,7 +97,7 @@ impl Sink for Sheet {
     ghost use Rattle.std.specs.Prelude.{◌≡◌, ◌≤◌, ◌<◌, ◌↔◌, Some, length, take};
     ghost use Rattle.std.specs.Prelude.{IfOk, IsErr, OnOk, OnErr};
     ghost use Rattle.std.specs.Io.KnownBytes.{Appends, Keeps};
-    ghost use Rattle.daa_outside.specs.Faults.{HasRisen, one_more};
+    ghost use Rattle.daa_io.specs.Faults.{HasRisen, one_more};
 
     ghost taken = { λ s. Some s.text };
 

@@ -11,7 +11,7 @@ use Rattle.daa_fixed.specs.Toward.{toward_of}
 use Rattle.daa_fixed.proofs.Towards.{toward_of-step}
 use Rattle.daa_config.specs.declared.config.Rates.{Rates}
 use Rattle.daa_config.specs.declared.candidate.Candidate.{Candidate}
-use Rattle.daa_config.specs.declared.candidate.Candidate.TheVariants.{Hold, Track, Speed, Climb, Height}
+use Rattle.daa_config.specs.declared.candidate.Candidate.TheVariants.{Hold, Track, GroundSpeed, VerticalSpeed, Altitude}
 use Rattle.daa_config.specs.Settings.{AreRatesInRange, IsCandidateInRange}
 use Rattle.daa_state.specs.declared.word.Own.{Own}
 use Rattle.daa_state.specs.InRange.{IsOwnInRange}
@@ -70,27 +70,27 @@ module _ (own : Own) (rates : Rates) (m : ℕ) (candidate : Candidate) where
 
 -- ---- on the way to an altitude the height is the definition's
 module _ (own : Own) (rates : Rates) (m : ℕ) (a : ℤ) where
-  rises : (j : ℕ) → (velocity_since own rates m (Height a) j).up ≡ height_since own rates m a (j + 1) -ℤ height_since own rates m a j
+  rises : (j : ℕ) → (velocity_since own rates m (Altitude a) j).up ≡ height_since own rates m a (j + 1) -ℤ height_since own rates m a j
   unfolding velocity_since vertical_speed_since
   rises j = refl
 
-  height_from : (j : ℕ) → (place_delayed own rates m (Height a) (m + j)).up ≡ height_since own rates m a j
+  height_from : (j : ℕ) → (place_delayed own rates m (Altitude a) (m + j)).up ≡ height_since own rates m a j
   height_from zero =
       let none : m + 0 ≡ m = omega arith in
-      ap (λ (k : ℕ). (place_delayed own rates m (Height a) k).up) none
-      ∙ ap (λ (x : Solid). x.up) (held_place own rates m (Height a) m (omega arith))
+      ap (λ (k : ℕ). (place_delayed own rates m (Altitude a) k).up) none
+      ∙ ap (λ (x : Solid). x.up) (held_place own rates m (Altitude a) m (omega arith))
       ∙ sym (none_toward (place_on own rates Hold m).up (pos 60 *ℤ a) rates.alt)
   height_from (suc j) =
       let one : m + suc j ≡ m + j + 1 = omega arith in
       let back : m + j - m ≡ j = omega arith in
-      let speed : (velocity_delayed own rates m (Height a) (m + j)).up ≡ height_since own rates m a (j + 1) -ℤ height_since own rates m a j =
-      ap (λ (x : Solid). x.up) (begun own rates m (Height a) (m + j) (omega arith))
-      ∙ ap (λ (i : ℕ). (velocity_since own rates m (Height a) i).up) back
+      let speed : (velocity_delayed own rates m (Altitude a) (m + j)).up ≡ height_since own rates m a (j + 1) -ℤ height_since own rates m a j =
+      ap (λ (x : Solid). x.up) (begun own rates m (Altitude a) (m + j) (omega arith))
+      ∙ ap (λ (i : ℕ). (velocity_since own rates m (Altitude a) i).up) back
       ∙ rises j in
-      let so_far : (place_delayed own rates m (Height a) (m + j)).up ≡ height_since own rates m a j = height_from j in
+      let so_far : (place_delayed own rates m (Altitude a) (m + j)).up ≡ height_since own rates m a j = height_from j in
       let next : j + 1 ≡ suc j = omega arith in
-      ap (λ (k : ℕ). (place_delayed own rates m (Height a) k).up) one
-      ∙ sym (ap (λ (x : Solid). x.up) (next_place own rates m (Height a) (m + j)))
+      ap (λ (k : ℕ). (place_delayed own rates m (Altitude a) k).up) one
+      ∙ sym (ap (λ (x : Solid). x.up) (next_place own rates m (Altitude a) (m + j)))
       ∙ (λ i. so_far i +ℤ speed i)
       ∙ there (height_since own rates m a j) (height_since own rates m a (j + 1))
       ∙ ap (λ (i : ℕ). height_since own rates m a i) next
@@ -98,14 +98,14 @@ module _ (own : Own) (rates : Rates) (m : ℕ) (a : ℤ) where
       there : (x y : ℤ) → x +ℤ (y -ℤ x) ≡ y
       there x y = omega (arith, ints)
 
-  pub height_at : (k : ℕ) → m ≤ k → (place_delayed own rates m (Height a) k).up ≡ height_since own rates m a (k - m)
+  pub height_at : (k : ℕ) → m ≤ k → (place_delayed own rates m (Altitude a) k).up ≡ height_since own rates m a (k - m)
   height_at k le =
       let whole : k ≡ m + (k - m) = omega (arith, le) in
-      ap (λ (i : ℕ). (place_delayed own rates m (Height a) i).up) whole ∙ height_from (k - m)
+      ap (λ (i : ℕ). (place_delayed own rates m (Altitude a) i).up) whole ∙ height_from (k - m)
 
   -- the next second rises from where it is
   pub rises_from : (k : ℕ) → m ≤ k → AreRatesInRange rates
-      → toward_of (place_delayed own rates m (Height a) k).up (pos 60 *ℤ a) rates.alt -ℤ (place_delayed own rates m (Height a) k).up
+      → toward_of (place_delayed own rates m (Altitude a) k).up (pos 60 *ℤ a) rates.alt -ℤ (place_delayed own rates m (Altitude a) k).up
       ≡ height_since own rates m a (k - m + 1) -ℤ height_since own rates m a (k - m)
   rises_from k le r =
       let at = height_at k le in
@@ -127,19 +127,19 @@ module _ (own : Own) (rates : Rates) (m : ℕ) where
   unfolding velocity_from velocity_since vertical_speed_since velocity_on
   told Hold k le r = sym (begun own rates m Hold k le)
   told (Track c) k le r = sym (begun own rates m (Track c) k le)
-  told (Speed g) k le r = sym (begun own rates m (Speed g) k le)
-  told (Climb w) k le r = sym (begun own rates m (Climb w) k le)
-  told (Height a) k le r = let up = rises_from own rates m a k le r in
-      (λ i. record { flat = (velocity_on own rates (Height a) (k - m)).flat; up = up i }) ∙ sym (begun own rates m (Height a) k le)
+  told (GroundSpeed g) k le r = sym (begun own rates m (GroundSpeed g) k le)
+  told (VerticalSpeed w) k le r = sym (begun own rates m (VerticalSpeed w) k le)
+  told (Altitude a) k le r = let up = rises_from own rates m a k le r in
+      (λ i. record { flat = (velocity_on own rates (Altitude a) (k - m)).flat; up = up i }) ∙ sym (begun own rates m (Altitude a) k le)
 
   -- ---- how large
   climbs_within : IsOwnInRange own → AreRatesInRange rates → (candidate : Candidate) → IsCandidateInRange candidate → (j : ℕ) → unsigned_abs (vertical_speed_since own rates m candidate j) ≤ 10000
   unfolding vertical_speed_since
   climbs_within o r Hold h j = (vertical_speed_on-within own rates o r Hold j h).size
   climbs_within o r (Track c) h j = (vertical_speed_on-within own rates o r (Track c) j h).size
-  climbs_within o r (Speed g) h j = (vertical_speed_on-within own rates o r (Speed g) j h).size
-  climbs_within o r (Climb w) h j = (vertical_speed_on-within own rates o r (Climb w) j h).size
-  climbs_within o r (Height a) h j = rise_within own rates m a j r
+  climbs_within o r (GroundSpeed g) h j = (vertical_speed_on-within own rates o r (GroundSpeed g) j h).size
+  climbs_within o r (VerticalSpeed w) h j = (vertical_speed_on-within own rates o r (VerticalSpeed w) j h).size
+  climbs_within o r (Altitude a) h j = rise_within own rates m a j r
 
   module _ (o : IsOwnInRange own) (r : AreRatesInRange rates) (candidate : Candidate) (h : IsCandidateInRange candidate) where
     since_within : (j : ℕ) → IsSolidWithin 10000 (velocity_since own rates m candidate j)
@@ -183,12 +183,12 @@ module _ (own : Own) (rates : Rates) where
   unfolding velocity_since vertical_speed_since velocity_on vertical_speed_on place_on
   begun_at_once Hold j = refl
   begun_at_once (Track c) j = refl
-  begun_at_once (Speed g) j = refl
-  begun_at_once (Climb w) j = refl
-  begun_at_once (Height a) j =
+  begun_at_once (GroundSpeed g) j = refl
+  begun_at_once (VerticalSpeed w) j = refl
+  begun_at_once (Altitude a) j =
       let now = at_once (pos 60 *ℤ own.alt) in
       λ i. record {
-        flat = (velocity_on own rates (Height a) j).flat;
+        flat = (velocity_on own rates (Altitude a) j).flat;
         up = toward_of (now i) (pos 60 *ℤ a) (pos (j + 1) *ℤ rates.alt) -ℤ toward_of (now i) (pos 60 *ℤ a) (pos j *ℤ rates.alt);
       }
 

@@ -9,7 +9,7 @@ use Rattle.daa_taumod.specs.declared.Volume.{Volume}
 use Rattle.daa_taumod.specs.Volume.{Violates}
 use Rattle.daa_config.specs.declared.config.Rates.{Rates}
 use Rattle.daa_config.specs.declared.candidate.Candidate.{Candidate}
-use Rattle.daa_config.specs.declared.candidate.Candidate.TheVariants.{Hold, Height}
+use Rattle.daa_config.specs.declared.candidate.Candidate.TheVariants.{Hold, Altitude}
 use Rattle.daa_config.specs.Settings.{Settings, rates_of}
 use Rattle.daa_state.specs.declared.word.Own.{Own}
 use Rattle.daa_state.specs.declared.word.Traffic.{Traffic}
@@ -26,7 +26,7 @@ module _ (own : Own) (rates : Rates) (m : ℕ) where
   -- the vertical speed on the leg that begins j seconds after second m: that of the candidate's leg j; to an altitude, what the way from
   -- Hold's height at second m rises in that second
   unfoldable pub vertical_speed_since : Candidate → ℕ → ℤ
-  vertical_speed_since (Height a) j = height_since a (j + 1) -ℤ height_since a j
+  vertical_speed_since (Altitude a) j = height_since a (j + 1) -ℤ height_since a j
   vertical_speed_since candidate j = vertical_speed_on own rates candidate j
 
   -- the velocity on that leg: over ground that of the candidate's leg j

@@ -65,7 +65,7 @@ fn velocity_from(rates: &Rates, candidate: Candidate, place: &Solid, flown: &Sol
     ensures { result ≡ next_velocity rates.now candidate place.now flown.now }
 {
     match candidate {
-        Candidate::Height(a) => Solid {
+        Candidate::Altitude(a) => Solid {
             flat: flown.flat,
             up: rise(&place.up, a, rates.alt),
         },

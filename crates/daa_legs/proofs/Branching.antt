@@ -15,7 +15,7 @@ use Rattle.daa_state.specs.declared.word.Traffic.{Traffic}
 use Rattle.daa_legs.specs.declared.own_leg.OwnLeg.{OwnLeg}
 use Rattle.daa_legs.specs.Motion.{velocity_on, vertical_speed_on, ground_speed_on, track_on}
 use Rattle.daa_heading.specs.Heading.{velocity_of}
-use Rattle.daa_config.specs.declared.candidate.Candidate.TheVariants.{Height}
+use Rattle.daa_config.specs.declared.candidate.Candidate.TheVariants.{Altitude}
 use Rattle.daa_legs.specs.OwnLeg.{own_place, place_on, own_leg}
 use Rattle.daa_legs.specs.Relative.{relative_for}
 use Rattle.daa_legs.specs.Runs.{IsRunOf, MeetsBetween}
@@ -56,7 +56,7 @@ pub none_own : (b c : Parting) → b ≡ c → c.settles ≤ c.leaves → b.leav
 none_own b c is h k = let l = subst (λ (y : Parting). y.settles ≤ y.leaves) (sym is) h in omega (arith, k, l)
 
 -- a leg on the way to an altitude has the way over ground of the rest
-pub rises : (own : Own) (rates : Rates) (candidate : Candidate) (a : ℤ) (n : ℕ) (velocity : Solid) (up : ℤ) → candidate ≡ Height a → velocity ≡ velocity_there own candidate
+pub rises : (own : Own) (rates : Rates) (candidate : Candidate) (a : ℤ) (n : ℕ) (velocity : Solid) (up : ℤ) → candidate ≡ Altitude a → velocity ≡ velocity_there own candidate
     → up ≡ vertical_speed_on own rates candidate n → velocity_on own rates candidate n ≡ record { flat = velocity.flat; up = up }
 unfolding velocity_on velocity_there ground_speed_on track_on
 rises own rates candidate a n velocity up e v u =

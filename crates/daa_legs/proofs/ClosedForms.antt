@@ -9,7 +9,7 @@ use Rattle.daa_fixed.specs.Toward.{toward_of}
 use Rattle.daa_heading.specs.Heading.{velocity_of}
 use Rattle.daa_config.specs.declared.config.Rates.{Rates}
 use Rattle.daa_config.specs.declared.candidate.Candidate.{Candidate}
-use Rattle.daa_config.specs.declared.candidate.Candidate.TheVariants.{Hold, Track, Speed, Climb, Height}
+use Rattle.daa_config.specs.declared.candidate.Candidate.TheVariants.{Hold, Track, GroundSpeed, VerticalSpeed, Altitude}
 use Rattle.daa_config.specs.Settings.{AreRatesInRange}
 use Rattle.daa_state.specs.declared.word.Own.{Own}
 use Rattle.daa_state.specs.InRange.{IsOwnInRange}
@@ -72,24 +72,24 @@ module _ (own : Own) (rates : Rates) where
   unfolding ground_speed_on
   ground_speed-first Hold = refl
   ground_speed-first (Track c) = refl
-  ground_speed-first (Speed g) = none_toward own.gs g rates.gs
-  ground_speed-first (Climb w) = refl
-  ground_speed-first (Height a) = refl
+  ground_speed-first (GroundSpeed g) = none_toward own.gs g rates.gs
+  ground_speed-first (VerticalSpeed w) = refl
+  ground_speed-first (Altitude a) = refl
 
-  pub vertical_speed-first : (w : ℤ) → vertical_speed_on own rates (Climb w) 0 ≡ own.vs
+  pub vertical_speed-first : (w : ℤ) → vertical_speed_on own rates (VerticalSpeed w) 0 ≡ own.vs
   unfolding vertical_speed_on
   vertical_speed-first w = none_toward own.vs w rates.vs
 
-  pub ground_speed-next : (g : ℤ) (k : ℕ) → AreRatesInRange rates → ground_speed_on own rates (Speed g) (k + 1) ≡ toward_of (ground_speed_on own rates (Speed g) k) g rates.gs
+  pub ground_speed-next : (g : ℤ) (k : ℕ) → AreRatesInRange rates → ground_speed_on own rates (GroundSpeed g) (k + 1) ≡ toward_of (ground_speed_on own rates (GroundSpeed g) k) g rates.gs
   unfolding ground_speed_on
   ground_speed-next g k r = next_toward own.gs g rates.gs k (omega (arith, ints, r.gs.least))
 
-  pub vertical_speed-next : (w : ℤ) (k : ℕ) → AreRatesInRange rates → vertical_speed_on own rates (Climb w) (k + 1) ≡ toward_of (vertical_speed_on own rates (Climb w) k) w rates.vs
+  pub vertical_speed-next : (w : ℤ) (k : ℕ) → AreRatesInRange rates → vertical_speed_on own rates (VerticalSpeed w) (k + 1) ≡ toward_of (vertical_speed_on own rates (VerticalSpeed w) k) w rates.vs
   unfolding vertical_speed_on
   vertical_speed-next w k r = next_toward own.vs w rates.vs k (omega (arith, ints, r.vs.least))
 
   -- on the way to an altitude the height of the flight is the definition's
-  place-height : (a : ℤ) (k : ℕ) → (place_on own rates (Height a) k).up ≡ height_after own rates a k
+  place-height : (a : ℤ) (k : ℕ) → (place_on own rates (Altitude a) k).up ≡ height_after own rates a k
   unfolding place_on velocity_on vertical_speed_on
   place-height a zero = plain (pos 60 *ℤ own.alt) ∙ sym (none_toward (pos 60 *ℤ own.alt) (pos 60 *ℤ a) rates.alt)
     where
@@ -97,8 +97,8 @@ module _ (own : Own) (rates : Rates) where
       plain x = omega (arith, ints)
   place-height a (suc k) =
       let one : suc k ≡ k + 1 = omega arith in
-      ap (λ (n : ℕ). (place_on own rates (Height a) n).up) one
-      ∙ sym (ap (λ (x : Solid). x.up) (place-next own rates (Height a) k))
+      ap (λ (n : ℕ). (place_on own rates (Altitude a) n).up) one
+      ∙ sym (ap (λ (x : Solid). x.up) (place-next own rates (Altitude a) k))
       ∙ ap (λ (z : ℤ). z +ℤ (height_after own rates a (k + 1) -ℤ height_after own rates a k)) (place-height a k)
       ∙ back (height_after own rates a k) (height_after own rates a (k + 1))
       ∙ ap (λ (n : ℕ). height_after own rates a n) (sym one)
@@ -106,7 +106,7 @@ module _ (own : Own) (rates : Rates) where
       back : (x y : ℤ) → x +ℤ (y -ℤ x) ≡ y
       back x y = omega (arith, ints)
 
-  pub height-next : (a : ℤ) (k : ℕ) → AreRatesInRange rates → (place_on own rates (Height a) (k + 1)).up ≡ toward_of (place_on own rates (Height a) k).up (pos 60 *ℤ a) rates.alt
+  pub height-next : (a : ℤ) (k : ℕ) → AreRatesInRange rates → (place_on own rates (Altitude a) (k + 1)).up ≡ toward_of (place_on own rates (Altitude a) k).up (pos 60 *ℤ a) rates.alt
   height-next a k r =
       place-height a (k + 1)
       ∙ next_toward (pos 60 *ℤ own.alt) (pos 60 *ℤ a) rates.alt k (omega (arith, ints, r.alt.least))
@@ -120,6 +120,6 @@ module _ (own : Own) (rates : Rates) where
   unfolding track_on
   track-first Hold o = refl
   track-first (Track c) o = turned-none own.trk c rates.turn (own_track o)
-  track-first (Speed g) o = refl
-  track-first (Climb w) o = refl
-  track-first (Height a) o = refl
+  track-first (GroundSpeed g) o = refl
+  track-first (VerticalSpeed w) o = refl
+  track-first (Altitude a) o = refl

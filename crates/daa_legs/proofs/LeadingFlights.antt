@@ -10,7 +10,7 @@ use Rattle.daa_fixed.specs.Size.{IsFrom}
 use Rattle.daa_fixed.specs.Toward.{toward_of}
 use Rattle.daa_heading.specs.Heading.{velocity_of}
 use Rattle.daa_config.specs.declared.config.Rates.{Rates}
-use Rattle.daa_config.specs.declared.candidate.Candidate.TheVariants.{Hold, Track, Speed, Climb, Height}
+use Rattle.daa_config.specs.declared.candidate.Candidate.TheVariants.{Hold, Track, GroundSpeed, VerticalSpeed, Altitude}
 use Rattle.daa_state.specs.declared.word.Own.{Own}
 use Rattle.daa_legs.specs.Turn.{turned}
 use Rattle.daa_legs.specs.Motion.{track_on, ground_speed_on, vertical_speed_on, height_after, velocity_on}
@@ -102,28 +102,29 @@ module _ (own : Own) (rates : Rates) where
         back : (k : ℕ) → 1 ≤ k → k - 1 + 1 ≡ k
         back k g = omega (arith, g)
 
-  speed_same : (c d : ℤ) (k : ℕ) → toward_of own.gs c (pos k *ℤ rates.gs) ≡ toward_of own.gs d (pos k *ℤ rates.gs) → velocity_on own rates (Speed c) k ≡ velocity_on own rates (Speed d) k
+  speed_same : (c d : ℤ) (k : ℕ) → toward_of own.gs c (pos k *ℤ rates.gs) ≡ toward_of own.gs d (pos k *ℤ rates.gs) → velocity_on own rates (GroundSpeed c) k ≡ velocity_on own rates (GroundSpeed d) k
   unfolding velocity_on ground_speed_on track_on vertical_speed_on
   speed_same c d k e = λ i. record { flat = velocity_of (e i) own.trk; up = own.vs }
 
-  speed_settled : (c : ℤ) (k : ℕ) → toward_of own.gs c (pos k *ℤ rates.gs) ≡ c → velocity_on own rates (Speed c) k ≡ velocity_there own (Speed c)
+  speed_settled : (c : ℤ) (k : ℕ) → toward_of own.gs c (pos k *ℤ rates.gs) ≡ c → velocity_on own rates (GroundSpeed c) k ≡ velocity_there own (GroundSpeed c)
   unfolding velocity_on ground_speed_on track_on vertical_speed_on velocity_there
   speed_settled c k e = λ i. record { flat = velocity_of (e i) own.trk; up = own.vs }
 
-  climb_same : (c d : ℤ) (k : ℕ) → toward_of own.vs c (pos k *ℤ rates.vs) ≡ toward_of own.vs d (pos k *ℤ rates.vs) → velocity_on own rates (Climb c) k ≡ velocity_on own rates (Climb d) k
+  climb_same : (c d : ℤ) (k : ℕ) → toward_of own.vs c (pos k *ℤ rates.vs) ≡ toward_of own.vs d (pos k *ℤ rates.vs)
+      → velocity_on own rates (VerticalSpeed c) k ≡ velocity_on own rates (VerticalSpeed d) k
   unfolding velocity_on ground_speed_on track_on vertical_speed_on
   climb_same c d k e = λ i. record { flat = velocity_of own.gs own.trk; up = e i }
 
-  climb_settled : (c : ℤ) (k : ℕ) → toward_of own.vs c (pos k *ℤ rates.vs) ≡ c → velocity_on own rates (Climb c) k ≡ velocity_there own (Climb c)
+  climb_settled : (c : ℤ) (k : ℕ) → toward_of own.vs c (pos k *ℤ rates.vs) ≡ c → velocity_on own rates (VerticalSpeed c) k ≡ velocity_there own (VerticalSpeed c)
   unfolding velocity_on ground_speed_on track_on vertical_speed_on velocity_there
   climb_settled c k e = λ i. record { flat = velocity_of own.gs own.trk; up = e i }
 
   height_same : (c d : ℤ) (k : ℕ) → height_after own rates c k ≡ height_after own rates d k → height_after own rates c (k + 1) ≡ height_after own rates d (k + 1)
-      → velocity_on own rates (Height c) k ≡ velocity_on own rates (Height d) k
+      → velocity_on own rates (Altitude c) k ≡ velocity_on own rates (Altitude d) k
   unfolding velocity_on ground_speed_on track_on vertical_speed_on
   height_same c d k e f = λ i. record { flat = velocity_of own.gs own.trk; up = f i -ℤ e i }
 
-  height_settled : (c : ℤ) (k : ℕ) → height_after own rates c k ≡ pos 60 *ℤ c → height_after own rates c (k + 1) ≡ pos 60 *ℤ c → velocity_on own rates (Height c) k ≡ velocity_there own (Height c)
+  height_settled : (c : ℤ) (k : ℕ) → height_after own rates c k ≡ pos 60 *ℤ c → height_after own rates c (k + 1) ≡ pos 60 *ℤ c → velocity_on own rates (Altitude c) k ≡ velocity_there own (Altitude c)
   unfolding velocity_on ground_speed_on track_on vertical_speed_on velocity_there
   height_settled c k e f = λ i. record { flat = velocity_of own.gs own.trk; up = ((λ j. f j -ℤ e j) ∙ none (pos 60 *ℤ c)) i }
     where
@@ -139,13 +140,13 @@ module _ (own : Own) (rates : Rates) where
   track_same c d k l e = λ i. record { flat = velocity_of own.gs (e i); up = own.vs }
 
   -- a speed that rises, and one that falls
-  pub speed_up : (g : ℤ) (n : ℕ) → pos 0 ≤ℤ rates.gs → own.gs ≤ℤ g → g ≤ℤ pos 10000 → IsWholeLegs (g -ℤ own.gs) rates.gs n → FliesAs own rates (Speed g) (Speed (pos 10000)) (n + 1)
+  pub speed_up : (g : ℤ) (n : ℕ) → pos 0 ≤ℤ rates.gs → own.gs ≤ℤ g → g ≤ℤ pos 10000 → IsWholeLegs (g -ℤ own.gs) rates.gs n → FliesAs own rates (GroundSpeed g) (GroundSpeed (pos 10000)) (n + 1)
   speed_up g n r0 h k legs = record {
     same = λ j b. speed_same g (pos 10000) j (toward_as own.gs g (pos 10000) (pos j *ℤ rates.gs) (product_nonneg j rates.gs r0) h k (within
         rates.gs r0 (g -ℤ own.gs) n legs (omega (arith, ints, h)) j (omega (arith, b))));
   }
 
-  pub speed_down : (g : ℤ) (n : ℕ) → pos 0 ≤ℤ rates.gs → g ≤ℤ own.gs → pos 0 ≤ℤ g → IsWholeLegs (own.gs -ℤ g) rates.gs n → FliesAs own rates (Speed g) (Speed (pos 0)) (n + 1)
+  pub speed_down : (g : ℤ) (n : ℕ) → pos 0 ≤ℤ rates.gs → g ≤ℤ own.gs → pos 0 ≤ℤ g → IsWholeLegs (own.gs -ℤ g) rates.gs n → FliesAs own rates (GroundSpeed g) (GroundSpeed (pos 0)) (n + 1)
   speed_down g n r0 h k legs = record {
     same = λ j b. speed_same g (pos 0) j (toward_as_down own.gs g (pos 0) (pos j *ℤ rates.gs) (product_nonneg j rates.gs r0) h k (within
         rates.gs r0 (own.gs -ℤ g) n legs (omega (arith, ints, h)) j (omega (arith, b))));
@@ -157,20 +158,20 @@ module _ (own : Own) (rates : Rates) where
   arrived_down : (x y rate : ℤ) (n k : ℕ) → pos 0 ≤ℤ rate → y ≤ℤ x → IsWholeLegs (x -ℤ y) rate n → n < k → toward_of x y (pos k *ℤ rate) ≡ y
   arrived_down x y rate n k r0 h legs b = let a = legs.after k b in toward_there x y (pos k *ℤ rate) (omega (arith, ints, a)) (omega (arith, ints, product_nonneg k rate r0, h))
 
-  pub speed_arrives_up : (g : ℤ) (n : ℕ) → pos 0 ≤ℤ rates.gs → own.gs ≤ℤ g → IsWholeLegs (g -ℤ own.gs) rates.gs n → FliesOn own rates (Speed g) (n + 1)
+  pub speed_arrives_up : (g : ℤ) (n : ℕ) → pos 0 ≤ℤ rates.gs → own.gs ≤ℤ g → IsWholeLegs (g -ℤ own.gs) rates.gs n → FliesOn own rates (GroundSpeed g) (n + 1)
   speed_arrives_up g n r0 h legs = record { there = λ k b. speed_settled g k (arrived_up own.gs g rates.gs n k r0 h legs (omega (arith, b))) }
 
-  pub speed_arrives_down : (g : ℤ) (n : ℕ) → pos 0 ≤ℤ rates.gs → g ≤ℤ own.gs → IsWholeLegs (own.gs -ℤ g) rates.gs n → FliesOn own rates (Speed g) (n + 1)
+  pub speed_arrives_down : (g : ℤ) (n : ℕ) → pos 0 ≤ℤ rates.gs → g ≤ℤ own.gs → IsWholeLegs (own.gs -ℤ g) rates.gs n → FliesOn own rates (GroundSpeed g) (n + 1)
   speed_arrives_down g n r0 h legs = record { there = λ k b. speed_settled g k (arrived_down own.gs g rates.gs n k r0 h legs (omega (arith, b))) }
 
-  pub climb_up : (w : ℤ) (n : ℕ) → pos 0 ≤ℤ rates.vs → own.vs ≤ℤ w → w ≤ℤ pos 10000 → IsWholeLegs (w -ℤ own.vs) rates.vs n → FliesAs own rates (Climb w) (Climb (pos 10000)) (n + 1)
+  pub climb_up : (w : ℤ) (n : ℕ) → pos 0 ≤ℤ rates.vs → own.vs ≤ℤ w → w ≤ℤ pos 10000 → IsWholeLegs (w -ℤ own.vs) rates.vs n → FliesAs own rates (VerticalSpeed w) (VerticalSpeed (pos 10000)) (n + 1)
   climb_up w n r0 h k legs = record {
     same = λ j b. climb_same w (pos 10000) j (toward_as own.vs w (pos 10000) (pos j *ℤ rates.vs) (product_nonneg j rates.vs r0) h k (within
         rates.vs r0 (w -ℤ own.vs) n legs (omega (arith, ints, h)) j (omega (arith, b))));
   }
 
   pub height_up : (a : ℤ) (n : ℕ) → pos 0 ≤ℤ rates.alt → (pos 60 *ℤ own.alt) ≤ℤ (pos 60 *ℤ a) → a ≤ℤ pos 60000 → IsWholeLegs (pos 60 *ℤ a -ℤ pos 60 *ℤ own.alt) rates.alt n
-      → FliesAs own rates (Height a) (Height (pos 60000)) n
+      → FliesAs own rates (Altitude a) (Altitude (pos 60000)) n
   height_up a n r0 h k legs = record {
     same = λ j b. height_same a (pos 60000) j
         (toward_as (pos 60 *ℤ own.alt) (pos 60 *ℤ a) (pos 60 *ℤ pos 60000) (pos j *ℤ rates.alt) (product_nonneg j rates.alt r0) h (omega (arith, ints, k)) (within rates.alt r0
@@ -179,25 +180,26 @@ module _ (own : Own) (rates : Rates) where
   }
 
   pub height_arrives_up : (a : ℤ) (n : ℕ) → pos 0 ≤ℤ rates.alt → (pos 60 *ℤ own.alt) ≤ℤ (pos 60 *ℤ a) → IsWholeLegs (pos 60 *ℤ a -ℤ pos 60 *ℤ own.alt) rates.alt n
-      → FliesOn own rates (Height a) (n + 1)
+      → FliesOn own rates (Altitude a) (n + 1)
   height_arrives_up a n r0 h legs =
       let there : (k : ℕ) → n < k → height_after own rates a k ≡ pos 60 *ℤ a = λ k b. arrived_up (pos 60 *ℤ own.alt) (pos 60 *ℤ a) rates.alt n k r0 h legs b in
       record { there = λ k b. height_settled a k (there k (omega (arith, b))) (there (k + 1) (omega (arith, b))) }
 
-  pub climb_down : (w : ℤ) (n : ℕ) → pos 0 ≤ℤ rates.vs → w ≤ℤ own.vs → negsuc 9999 ≤ℤ w → IsWholeLegs (own.vs -ℤ w) rates.vs n → FliesAs own rates (Climb w) (Climb (negsuc 9999)) (n + 1)
+  pub climb_down : (w : ℤ) (n : ℕ) → pos 0 ≤ℤ rates.vs → w ≤ℤ own.vs → negsuc 9999 ≤ℤ w → IsWholeLegs (own.vs -ℤ w) rates.vs n
+      → FliesAs own rates (VerticalSpeed w) (VerticalSpeed (negsuc 9999)) (n + 1)
   climb_down w n r0 h k legs = record {
     same = λ j b. climb_same w (negsuc 9999) j (toward_as_down own.vs w (negsuc 9999) (pos j *ℤ rates.vs) (product_nonneg j rates.vs r0) h k
         (within rates.vs r0 (own.vs -ℤ w) n legs (omega (arith, ints, h)) j (omega (arith, b))));
   }
 
-  pub climb_arrives_up : (w : ℤ) (n : ℕ) → pos 0 ≤ℤ rates.vs → own.vs ≤ℤ w → IsWholeLegs (w -ℤ own.vs) rates.vs n → FliesOn own rates (Climb w) (n + 1)
+  pub climb_arrives_up : (w : ℤ) (n : ℕ) → pos 0 ≤ℤ rates.vs → own.vs ≤ℤ w → IsWholeLegs (w -ℤ own.vs) rates.vs n → FliesOn own rates (VerticalSpeed w) (n + 1)
   climb_arrives_up w n r0 h legs = record { there = λ k b. climb_settled w k (arrived_up own.vs w rates.vs n k r0 h legs (omega (arith, b))) }
 
-  pub climb_arrives_down : (w : ℤ) (n : ℕ) → pos 0 ≤ℤ rates.vs → w ≤ℤ own.vs → IsWholeLegs (own.vs -ℤ w) rates.vs n → FliesOn own rates (Climb w) (n + 1)
+  pub climb_arrives_down : (w : ℤ) (n : ℕ) → pos 0 ≤ℤ rates.vs → w ≤ℤ own.vs → IsWholeLegs (own.vs -ℤ w) rates.vs n → FliesOn own rates (VerticalSpeed w) (n + 1)
   climb_arrives_down w n r0 h legs = record { there = λ k b. climb_settled w k (arrived_down own.vs w rates.vs n k r0 h legs (omega (arith, b))) }
 
   pub height_down : (a : ℤ) (n : ℕ) → pos 0 ≤ℤ rates.alt → (pos 60 *ℤ a) ≤ℤ (pos 60 *ℤ own.alt) → negsuc 1999 ≤ℤ a → IsWholeLegs (pos 60 *ℤ own.alt -ℤ pos 60 *ℤ a) rates.alt n
-      → FliesAs own rates (Height a) (Height (negsuc 1999)) n
+      → FliesAs own rates (Altitude a) (Altitude (negsuc 1999)) n
   height_down a n r0 h k legs = record {
     same = λ j b. height_same a (negsuc 1999) j
         (toward_as_down (pos 60 *ℤ own.alt) (pos 60 *ℤ a) (pos 60 *ℤ negsuc 1999) (pos j *ℤ rates.alt) (product_nonneg j rates.alt r0) h (omega (arith, ints, k)) (within rates.alt
@@ -206,18 +208,19 @@ module _ (own : Own) (rates : Rates) where
   }
 
   pub height_arrives_down : (a : ℤ) (n : ℕ) → pos 0 ≤ℤ rates.alt → (pos 60 *ℤ a) ≤ℤ (pos 60 *ℤ own.alt) → IsWholeLegs (pos 60 *ℤ own.alt -ℤ pos 60 *ℤ a) rates.alt n
-      → FliesOn own rates (Height a) (n + 1)
+      → FliesOn own rates (Altitude a) (n + 1)
   height_arrives_down a n r0 h legs =
       let there : (k : ℕ) → n < k → height_after own rates a k ≡ pos 60 *ℤ a = λ k b. arrived_down (pos 60 *ℤ own.alt) (pos 60 *ℤ a) rates.alt n k r0 h legs b in
       record { there = λ k b. height_settled a k (there k (omega (arith, b))) (there (k + 1) (omega (arith, b))) }
 
   -- the second after the whole ones rises what is left of the way
-  height_rises : (a : ℤ) (n : ℕ) (before : ℤ) → height_after own rates a n ≡ before → height_after own rates a (n + 1) ≡ pos 60 *ℤ a → vertical_speed_on own rates (Height a) n ≡ pos 60 *ℤ a -ℤ before
+  height_rises : (a : ℤ) (n : ℕ) (before : ℤ) → height_after own rates a n ≡ before → height_after own rates a (n + 1) ≡ pos 60 *ℤ a
+      → vertical_speed_on own rates (Altitude a) n ≡ pos 60 *ℤ a -ℤ before
   unfolding vertical_speed_on
   height_rises a n before e f = λ i. f i -ℤ e i
 
   rest_up : (a : ℤ) (n : ℕ) → pos 0 ≤ℤ rates.alt → (pos 60 *ℤ own.alt) ≤ℤ (pos 60 *ℤ a) → IsWholeLegs (pos 60 *ℤ a -ℤ pos 60 *ℤ own.alt) rates.alt n
-      → vertical_speed_on own rates (Height a) n ≡ (pos 60 *ℤ a -ℤ pos 60 *ℤ own.alt) -ℤ pos n *ℤ rates.alt
+      → vertical_speed_on own rates (Altitude a) n ≡ (pos 60 *ℤ a -ℤ pos 60 *ℤ own.alt) -ℤ pos n *ℤ rates.alt
   rest_up a n r0 h legs =
       let w = within rates.alt r0 (pos 60 *ℤ a -ℤ pos 60 *ℤ own.alt) n legs (omega (arith, ints, h)) n (omega arith) in
       let e = height_rises a n _ (toward_short (pos 60 *ℤ own.alt) (pos 60 *ℤ a) (pos n *ℤ rates.alt) (product_nonneg n rates.alt r0) w) (arrived_up (pos 60 *ℤ own.alt) (pos 60 *ℤ
@@ -228,7 +231,7 @@ module _ (own : Own) (rates : Rates) where
       parts x y r = omega (arith, ints)
 
   rest_down : (a : ℤ) (n : ℕ) → pos 0 ≤ℤ rates.alt → (pos 60 *ℤ a) ≤ℤ (pos 60 *ℤ own.alt) → IsWholeLegs (pos 60 *ℤ own.alt -ℤ pos 60 *ℤ a) rates.alt n
-      → vertical_speed_on own rates (Height a) n ≡ (pos 60 *ℤ a -ℤ pos 60 *ℤ own.alt) +ℤ pos n *ℤ rates.alt
+      → vertical_speed_on own rates (Altitude a) n ≡ (pos 60 *ℤ a -ℤ pos 60 *ℤ own.alt) +ℤ pos n *ℤ rates.alt
   rest_down a n r0 h legs =
       let w = within rates.alt r0 (pos 60 *ℤ own.alt -ℤ pos 60 *ℤ a) n legs (omega (arith, ints, h)) n (omega arith) in
       let e = height_rises a n _ (toward_short_down (pos 60 *ℤ own.alt) (pos 60 *ℤ a) (pos n *ℤ rates.alt) (product_nonneg n rates.alt r0) w) (arrived_down (pos 60 *ℤ own.alt)
@@ -241,14 +244,14 @@ module _ (own : Own) (rates : Rates) where
   -- both sides together
   pub speed_branch : (g : ℤ) (upper : Bool) (n : ℕ) → pos 0 ≤ℤ rates.gs → IsFrom (pos 0) (pos 10000) g
       → (IsTrue upper → own.gs ≤ℤ g) → (upper ≡ false → g ≤ℤ own.gs) → (IsTrue upper → IsWholeLegs (g -ℤ own.gs) rates.gs n) → (upper ≡ false → IsWholeLegs (own.gs -ℤ g) rates.gs n)
-      → FliesAs own rates (Speed g) (lead_of own (Speed g) upper) (n + 1) × FliesOn own rates (Speed g) (n + 1)
+      → FliesAs own rates (GroundSpeed g) (lead_of own (GroundSpeed g) upper) (n + 1) × FliesOn own rates (GroundSpeed g) (n + 1)
   unfolding lead_of
   speed_branch g true n r0 f up down ul dl = (speed_up g n r0 (up refl) f.most (ul refl), speed_arrives_up g n r0 (up refl) (ul refl))
   speed_branch g false n r0 f up down ul dl = (speed_down g n r0 (down refl) f.least (dl refl), speed_arrives_down g n r0 (down refl) (dl refl))
 
   pub climb_branch : (w : ℤ) (upper : Bool) (n : ℕ) → pos 0 ≤ℤ rates.vs → IsFrom (negsuc 9999) (pos 10000) w
       → (IsTrue upper → own.vs ≤ℤ w) → (upper ≡ false → w ≤ℤ own.vs) → (IsTrue upper → IsWholeLegs (w -ℤ own.vs) rates.vs n) → (upper ≡ false → IsWholeLegs (own.vs -ℤ w) rates.vs n)
-      → FliesAs own rates (Climb w) (lead_of own (Climb w) upper) (n + 1) × FliesOn own rates (Climb w) (n + 1)
+      → FliesAs own rates (VerticalSpeed w) (lead_of own (VerticalSpeed w) upper) (n + 1) × FliesOn own rates (VerticalSpeed w) (n + 1)
   unfolding lead_of
   climb_branch w true n r0 f up down ul dl = (climb_up w n r0 (up refl) f.most (ul refl), climb_arrives_up w n r0 (up refl) (ul refl))
   climb_branch w false n r0 f up down ul dl = (climb_down w n r0 (down refl) f.least (dl refl), climb_arrives_down w n r0 (down refl) (dl refl))
@@ -256,7 +259,7 @@ module _ (own : Own) (rates : Rates) where
   pub height_branch : (a : ℤ) (upper : Bool) (n : ℕ) → pos 0 ≤ℤ rates.alt → IsFrom (negsuc 1999) (pos 60000) a
       → (IsTrue upper → (pos 60 *ℤ own.alt) ≤ℤ (pos 60 *ℤ a)) → (upper ≡ false → (pos 60 *ℤ a) ≤ℤ (pos 60 *ℤ own.alt)) → (IsTrue upper
       → IsWholeLegs (pos 60 *ℤ a -ℤ pos 60 *ℤ own.alt) rates.alt n) → (upper ≡ false → IsWholeLegs (pos 60 *ℤ own.alt -ℤ pos 60 *ℤ a) rates.alt n)
-      → FliesAs own rates (Height a) (lead_of own (Height a) upper) n × FliesOn own rates (Height a) (n + 1)
+      → FliesAs own rates (Altitude a) (lead_of own (Altitude a) upper) n × FliesOn own rates (Altitude a) (n + 1)
   unfolding lead_of
   height_branch a true n r0 f up down ul dl = (height_up a n r0 (up refl) f.most (ul refl), height_arrives_up a n r0 (up refl) (ul refl))
   height_branch a false n r0 f up down ul dl = (height_down a n r0 (down refl) f.least (dl refl), height_arrives_down a n r0 (down refl) (dl refl))
@@ -265,19 +268,19 @@ module _ (own : Own) (rates : Rates) where
       → (IsTrue upper → (pos 60 *ℤ own.alt) ≤ℤ (pos 60 *ℤ a)) → (upper ≡ false → (pos 60 *ℤ a) ≤ℤ (pos 60 *ℤ own.alt)) → (IsTrue upper
       → IsWholeLegs (pos 60 *ℤ a -ℤ pos 60 *ℤ own.alt) rates.alt n) → (upper ≡ false → IsWholeLegs (pos 60 *ℤ own.alt -ℤ pos 60 *ℤ a) rates.alt n)
       → (IsTrue upper → rise ≡ (pos 60 *ℤ a -ℤ pos 60 *ℤ own.alt) -ℤ pos n *ℤ rates.alt) → (upper ≡ false → rise ≡ (pos 60 *ℤ a -ℤ pos 60 *ℤ own.alt) +ℤ pos n *ℤ rates.alt)
-      → rise ≡ vertical_speed_on own rates (Height a) n
+      → rise ≡ vertical_speed_on own rates (Altitude a) n
   height_rest a true n rise r0 up down ul dl ur dr = ur refl ∙ sym (rest_up a n r0 (up refl) (ul refl))
   height_rest a false n rise r0 up down ul dl ur dr = dr refl ∙ sym (rest_down a n r0 (down refl) (dl refl))
 
   -- where nothing is left, it flies straight on at once
-  level_there : (a : ℤ) (n : ℕ) → vertical_speed_on own rates (Height a) n ≡ pos 0 → velocity_on own rates (Height a) n ≡ velocity_there own (Height a)
+  level_there : (a : ℤ) (n : ℕ) → vertical_speed_on own rates (Altitude a) n ≡ pos 0 → velocity_on own rates (Altitude a) n ≡ velocity_there own (Altitude a)
   unfolding velocity_on ground_speed_on track_on velocity_there
   level_there a n e = λ i. record { flat = velocity_of own.gs own.trk; up = e i }
 
-  pub straight_at_once : (a : ℤ) (n : ℕ) → vertical_speed_on own rates (Height a) n ≡ pos 0 → FliesOn own rates (Height a) (n + 1) → FliesOn own rates (Height a) n
+  pub straight_at_once : (a : ℤ) (n : ℕ) → vertical_speed_on own rates (Altitude a) n ≡ pos 0 → FliesOn own rates (Altitude a) (n + 1) → FliesOn own rates (Altitude a) n
   straight_at_once a n e on = record {
     there = λ k b. ⊎_elim
-        (λ same. subst (λ (j : ℕ). velocity_on own rates (Height a) j ≡ velocity_there own (Height a)) same (level_there a n e))
+        (λ same. subst (λ (j : ℕ). velocity_on own rates (Altitude a) j ≡ velocity_there own (Altitude a)) same (level_there a n e))
         (λ later. on.there k later)
         (first n k b);
   }

@@ -14,7 +14,7 @@ use Rattle.daa_taumod.specs.declared.Model.{Model}
 use Rattle.daa_taumod.specs.declared.Model.TheVariants.{Tau, Tcpa, Taumod, Tep}
 use Rattle.daa_taumod.specs.Volume.{place_at, height_at, IsSoon, ViolatesHorizontally, ViolatesVertically, Violates}
 use Rattle.daa_config.specs.declared.candidate.Candidate.{Candidate}
-use Rattle.daa_config.specs.declared.candidate.Candidate.TheVariants.{Hold, Track, Speed, Climb, Height}
+use Rattle.daa_config.specs.declared.candidate.Candidate.TheVariants.{Hold, Track, GroundSpeed, VerticalSpeed, Altitude}
 use Rattle.daa_config.specs.declared.config.Rates.{Rates}
 use Rattle.daa_config.specs.Settings.{Settings, rates_of}
 use Rattle.daa_state.specs.declared.word.Own.{Own}
@@ -59,15 +59,15 @@ module _ (own : Own) (rates : Rates) where
   unfolding velocity_on vertical_speed_on
   track-keeps c j = refl
 
-  pub speed-keeps : (c : ℤ) → KeepsHeights own rates (Speed c)
+  pub speed-keeps : (c : ℤ) → KeepsHeights own rates (GroundSpeed c)
   unfolding velocity_on vertical_speed_on
   speed-keeps c j = refl
 
-  pub climb-keeps : (c : ℤ) → KeepsWay own rates (Climb c)
+  pub climb-keeps : (c : ℤ) → KeepsWay own rates (VerticalSpeed c)
   unfolding velocity_on ground_speed_on track_on
   climb-keeps c j = refl
 
-  pub height-keeps : (c : ℤ) → KeepsWay own rates (Height c)
+  pub height-keeps : (c : ℤ) → KeepsWay own rates (Altitude c)
   unfolding velocity_on ground_speed_on track_on
   height-keeps c j = refl
 

@@ -11,7 +11,7 @@ use Rattle.daa_fixed.proofs.Towards.{toward_of-between}
 use Rattle.daa_heading.specs.Heading.{velocity_of}
 use Rattle.daa_config.specs.declared.config.Rates.{Rates}
 use Rattle.daa_config.specs.declared.candidate.Candidate.{Candidate}
-use Rattle.daa_config.specs.declared.candidate.Candidate.TheVariants.{Track, Speed, Climb, Height}
+use Rattle.daa_config.specs.declared.candidate.Candidate.TheVariants.{Track, GroundSpeed, VerticalSpeed, Altitude}
 use Rattle.daa_config.specs.Settings.{AreRatesInRange}
 use Rattle.daa_state.specs.declared.word.Own.{Own}
 use Rattle.daa_state.specs.InRange.{IsOwnInRange}
@@ -51,17 +51,17 @@ module _ (own : Own) (rates : Rates) where
 
   pub speed_way : (g : ℤ) (upper : Bool) (n : ℕ) → pos 0 ≤ℤ rates.gs → (IsTrue upper → own.gs ≤ℤ g) → (upper ≡ false → g ≤ℤ own.gs) → (IsTrue upper
       → IsWholeLegs (g -ℤ own.gs) rates.gs n) → (upper ≡ false → IsWholeLegs (own.gs -ℤ g) rates.gs n)
-      → (k : ℕ) → k < n + 1 → IsOnWay own rates (Speed g) upper k
+      → (k : ℕ) → k < n + 1 → IsOnWay own rates (GroundSpeed g) upper k
   speed_way g upper n r0 up down ul dl k h = stepped own.gs g rates.gs upper n r0 up down ul dl k (omega (arith, h))
 
   pub climb_way : (w : ℤ) (upper : Bool) (n : ℕ) → pos 0 ≤ℤ rates.vs → (IsTrue upper → own.vs ≤ℤ w) → (upper ≡ false → w ≤ℤ own.vs) → (IsTrue upper
       → IsWholeLegs (w -ℤ own.vs) rates.vs n) → (upper ≡ false → IsWholeLegs (own.vs -ℤ w) rates.vs n)
-      → (k : ℕ) → k < n + 1 → IsOnWay own rates (Climb w) upper k
+      → (k : ℕ) → k < n + 1 → IsOnWay own rates (VerticalSpeed w) upper k
   climb_way w upper n r0 up down ul dl k h = stepped own.vs w rates.vs upper n r0 up down ul dl k (omega (arith, h))
 
   pub height_way : (a : ℤ) (upper : Bool) (n : ℕ) → pos 0 ≤ℤ rates.alt → (IsTrue upper → (pos 60 *ℤ own.alt) ≤ℤ (pos 60 *ℤ a)) → (upper ≡ false → (pos 60 *ℤ a) ≤ℤ (pos 60 *ℤ own.alt))
       → (IsTrue upper → IsWholeLegs (pos 60 *ℤ a -ℤ pos 60 *ℤ own.alt) rates.alt n) → (upper ≡ false → IsWholeLegs (pos 60 *ℤ own.alt -ℤ pos 60 *ℤ a) rates.alt n)
-      → (k : ℕ) → k < n → IsOnWay own rates (Height a) upper k
+      → (k : ℕ) → k < n → IsOnWay own rates (Altitude a) upper k
   height_way a upper n r0 up down ul dl k h = one_step (pos 60 *ℤ own.alt) (height_after own rates a (k + 1)) (height_after own rates a k) (step_of upper rates.alt) k
       (stepped (pos 60 *ℤ own.alt) (pos 60 *ℤ a) rates.alt upper n r0 up down ul dl (k + 1) (omega (arith, h)))
       (stepped (pos 60 *ℤ own.alt) (pos 60 *ℤ a) rates.alt upper n r0 up down ul dl k (omega (arith, h)))
@@ -96,16 +96,18 @@ module _ (own : Own) (rates : Rates) where
   unfolding velocity_on ground_speed_on track_on vertical_speed_on
   track_there c t k v e w = e ∙ (λ i. record { flat = velocity_of own.gs (sym w i); up = own.vs })
 
-  pub speed_there : (g gs : ℤ) (k : ℕ) (v : Solid) → v ≡ record { flat = velocity_of gs own.trk; up = own.vs } → toward_of own.gs g (pos k *ℤ rates.gs) ≡ gs → v ≡ velocity_on own rates (Speed g) k
+  pub speed_there : (g gs : ℤ) (k : ℕ) (v : Solid) → v ≡ record { flat = velocity_of gs own.trk; up = own.vs } → toward_of own.gs g (pos k *ℤ rates.gs) ≡ gs
+      → v ≡ velocity_on own rates (GroundSpeed g) k
   unfolding velocity_on ground_speed_on track_on vertical_speed_on
   speed_there g gs k v e w = e ∙ (λ i. record { flat = velocity_of (sym w i) own.trk; up = own.vs })
 
-  pub climb_there : (w up : ℤ) (k : ℕ) (v : Solid) → v ≡ record { flat = velocity_of own.gs own.trk; up = up } → toward_of own.vs w (pos k *ℤ rates.vs) ≡ up → v ≡ velocity_on own rates (Climb w) k
+  pub climb_there : (w up : ℤ) (k : ℕ) (v : Solid) → v ≡ record { flat = velocity_of own.gs own.trk; up = up } → toward_of own.vs w (pos k *ℤ rates.vs) ≡ up
+      → v ≡ velocity_on own rates (VerticalSpeed w) k
   unfolding velocity_on ground_speed_on track_on vertical_speed_on
   climb_there w up k v e h = e ∙ (λ i. record { flat = velocity_of own.gs own.trk; up = sym h i })
 
   pub height_there : (a up : ℤ) (k : ℕ) (v : Solid) → v ≡ record { flat = velocity_of own.gs own.trk; up = up }
-      → height_after own rates a (k + 1) -ℤ height_after own rates a k ≡ up → v ≡ velocity_on own rates (Height a) k
+      → height_after own rates a (k + 1) -ℤ height_after own rates a k ≡ up → v ≡ velocity_on own rates (Altitude a) k
   unfolding velocity_on ground_speed_on track_on vertical_speed_on
   height_there a up k v e h = e ∙ (λ i. record { flat = velocity_of own.gs own.trk; up = sym h i })
 

@@ -6,7 +6,7 @@ use Rattle.daa_fixed.specs.declared.Solid.{Solid}
 use Rattle.daa_heading.specs.Heading.{velocity_of}
 use Rattle.daa_config.specs.declared.config.Rates.{Rates}
 use Rattle.daa_config.specs.declared.candidate.Candidate.{Candidate}
-use Rattle.daa_config.specs.declared.candidate.Candidate.TheVariants.{Hold, Track, Speed, Climb, Height}
+use Rattle.daa_config.specs.declared.candidate.Candidate.TheVariants.{Hold, Track, GroundSpeed, VerticalSpeed, Altitude}
 use Rattle.daa_state.specs.declared.word.Own.{Own}
 use Rattle.daa_legs.specs.Motion.{velocity_on}
 
@@ -15,25 +15,25 @@ use Rattle.daa_legs.specs.Motion.{velocity_on}
 unfoldable pub lead_of : Own → Candidate → (upper : Bool) → Candidate
 lead_of own Hold upper = Hold
 lead_of own (Track c) upper = Track (int_rem_euclid (own.trk +ℤ (if upper then pos 180 else pos 181)) (pos 360))
-lead_of own (Speed g) upper = Speed (if upper then pos 10000 else pos 0)
-lead_of own (Climb w) upper = Climb (if upper then pos 10000 else negsuc 9999)
-lead_of own (Height a) upper = Height (if upper then pos 60000 else negsuc 1999)
+lead_of own (GroundSpeed g) upper = GroundSpeed (if upper then pos 10000 else pos 0)
+lead_of own (VerticalSpeed w) upper = VerticalSpeed (if upper then pos 10000 else negsuc 9999)
+lead_of own (Altitude a) upper = Altitude (if upper then pos 60000 else negsuc 1999)
 
 -- the rate at which the candidate's value changes, if it has one
 abbrev pub rate_for : Rates → Candidate → ℤ
 rate_for rates Hold = rates.turn
 rate_for rates (Track c) = rates.turn
-rate_for rates (Speed g) = rates.gs
-rate_for rates (Climb w) = rates.vs
-rate_for rates (Height a) = rates.alt
+rate_for rates (GroundSpeed g) = rates.gs
+rate_for rates (VerticalSpeed w) = rates.vs
+rate_for rates (Altitude a) = rates.alt
 
 -- the velocity at which a candidate flies on once its value is reached
 unfoldable pub velocity_there : Own → Candidate → Solid
 velocity_there own Hold = record { flat = velocity_of own.gs own.trk; up = own.vs }
 velocity_there own (Track c) = record { flat = velocity_of own.gs c; up = own.vs }
-velocity_there own (Speed g) = record { flat = velocity_of g own.trk; up = own.vs }
-velocity_there own (Climb w) = record { flat = velocity_of own.gs own.trk; up = w }
-velocity_there own (Height a) = record { flat = velocity_of own.gs own.trk; up = pos 0 }
+velocity_there own (GroundSpeed g) = record { flat = velocity_of g own.trk; up = own.vs }
+velocity_there own (VerticalSpeed w) = record { flat = velocity_of own.gs own.trk; up = w }
+velocity_there own (Altitude a) = record { flat = velocity_of own.gs own.trk; up = pos 0 }
 
 module _ (own : Own) (rates : Rates) where
   -- before leg n the candidate flies as the other does

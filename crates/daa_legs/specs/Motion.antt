@@ -6,7 +6,7 @@ use Rattle.daa_fixed.specs.Toward.{toward_of}
 use Rattle.daa_heading.specs.Heading.{velocity_of}
 use Rattle.daa_config.specs.declared.config.Rates.{Rates}
 use Rattle.daa_config.specs.declared.candidate.Candidate.{Candidate}
-use Rattle.daa_config.specs.declared.candidate.Candidate.TheVariants.{Track, Speed, Climb, Height}
+use Rattle.daa_config.specs.declared.candidate.Candidate.TheVariants.{Track, GroundSpeed, VerticalSpeed, Altitude}
 use Rattle.daa_state.specs.declared.word.Own.{Own}
 use Rattle.daa_legs.specs.Turn.{turned}
 
@@ -18,7 +18,7 @@ module _ (own : Own) (rates : Rates) where
 
   -- the ground speed: after k seconds it is at most k times the rate nearer to that of the candidate, and never past it
   unfoldable pub ground_speed_on : Candidate → ℕ → ℤ
-  ground_speed_on (Speed g) k = toward_of own.gs g (pos k *ℤ rates.gs)
+  ground_speed_on (GroundSpeed g) k = toward_of own.gs g (pos k *ℤ rates.gs)
   ground_speed_on _ k = own.gs
 
   -- the height in units after k seconds on the way to an altitude of a feet
@@ -27,8 +27,8 @@ module _ (own : Own) (rates : Rates) where
 
   -- the vertical speed; on the way to an altitude it is what that second rises, and the present one does not count
   unfoldable pub vertical_speed_on : Candidate → ℕ → ℤ
-  vertical_speed_on (Climb w) k = toward_of own.vs w (pos k *ℤ rates.vs)
-  vertical_speed_on (Height a) k = height_after a (k + 1) -ℤ height_after a k
+  vertical_speed_on (VerticalSpeed w) k = toward_of own.vs w (pos k *ℤ rates.vs)
+  vertical_speed_on (Altitude a) k = height_after a (k + 1) -ℤ height_after a k
   vertical_speed_on _ k = own.vs
 
   -- the velocity of the track and the ground speed, with the vertical speed

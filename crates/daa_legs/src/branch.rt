@@ -130,7 +130,7 @@ pub(crate) fn parting_of(
     ensures after { FliesOn own.now rates.now candidate result.settles }
     ensures near { (result.leaves ≤ result.settles) × (result.settles ≤ result.leaves + 1) }
     ensures level { result.leaves < result.settles
-        → (a : ℤ) × (candidate ≡ Candidate.Height a) }
+        → (a : ℤ) × (candidate ≡ Candidate.Altitude a) }
     ensures rise { result.leaves < result.settles
         → result.rise ≡ vertical_speed_on own.now rates.now candidate result.leaves }
     ensures way { (k : ℕ) → k < result.leaves
@@ -144,13 +144,13 @@ pub(crate) fn parting_of(
             rise: 0,
         },
         Candidate::Track(c) => parting_after(turn_away(own.trk, c, rates.turn, divisor)),
-        Candidate::Speed(g) => {
+        Candidate::GroundSpeed(g) => {
             parting_after(way_to(i64::from(own.gs), i64::from(g), rates.gs, divisor))
         }
-        Candidate::Climb(w) => {
+        Candidate::VerticalSpeed(w) => {
             parting_after(way_to(i64::from(own.vs), i64::from(w), rates.vs, divisor))
         }
-        Candidate::Height(a) => {
+        Candidate::Altitude(a) => {
             let now = feet(own.alt);
             let target = feet(a);
             let way = way_to(now, target, rates.alt, divisor);
@@ -309,8 +309,8 @@ pub(crate) fn divisor_for(rates: &Rates, candidate: Candidate) -> Divisor
     match candidate {
         Candidate::Hold => Divisor::of(rates.turn),
         Candidate::Track(_) => Divisor::of(rates.turn),
-        Candidate::Speed(_) => Divisor::of(rates.gs),
-        Candidate::Climb(_) => Divisor::of(rates.vs),
-        Candidate::Height(_) => Divisor::of(rates.alt),
+        Candidate::GroundSpeed(_) => Divisor::of(rates.gs),
+        Candidate::VerticalSpeed(_) => Divisor::of(rates.vs),
+        Candidate::Altitude(_) => Divisor::of(rates.alt),
     }
 }

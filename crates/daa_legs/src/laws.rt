@@ -26,7 +26,7 @@ pub fn flights_begin_as_now()
     ensures ground_speed { (own : Own) (rates : Rates) (candidate : Candidate)
         → ground_speed_on own rates candidate 0 ≡ own.gs }
     ensures vertical_speed { (own : Own) (rates : Rates) (w : ℤ)
-        → vertical_speed_on own rates (Candidate.Climb w) 0 ≡ own.vs }
+        → vertical_speed_on own rates (Candidate.VerticalSpeed w) 0 ≡ own.vs }
     ensures hold { (own : Own) (rates : Rates) (k : ℕ) → velocity_on own rates Candidate.Hold k
         ≡ record { flat = velocity_of own.gs own.trk; up = own.vs } }
 {}
@@ -43,14 +43,14 @@ pub fn legs_join()
 /// they are there.
 pub fn legs_move_by_the_rates()
     ensures ground_speed { (own : Own) (rates : Rates) (g : ℤ) (k : ℕ) → AreRatesInRange rates →
-        ground_speed_on own rates (Candidate.Speed g) (k + 1)
-        ≡ toward_of (ground_speed_on own rates (Candidate.Speed g) k) g rates.gs }
+        ground_speed_on own rates (Candidate.GroundSpeed g) (k + 1)
+        ≡ toward_of (ground_speed_on own rates (Candidate.GroundSpeed g) k) g rates.gs }
     ensures vertical_speed { (own : Own) (rates : Rates) (w : ℤ) (k : ℕ) → AreRatesInRange rates →
-        vertical_speed_on own rates (Candidate.Climb w) (k + 1)
-        ≡ toward_of (vertical_speed_on own rates (Candidate.Climb w) k) w rates.vs }
+        vertical_speed_on own rates (Candidate.VerticalSpeed w) (k + 1)
+        ≡ toward_of (vertical_speed_on own rates (Candidate.VerticalSpeed w) k) w rates.vs }
     ensures height { (own : Own) (rates : Rates) (a : ℤ) (k : ℕ) → AreRatesInRange rates →
-        (place_on own rates (Candidate.Height a) (k + 1)).up
-        ≡ toward_of (place_on own rates (Candidate.Height a) k).up (pos 60 *ℤ a) rates.alt }
+        (place_on own rates (Candidate.Altitude a) (k + 1)).up
+        ≡ toward_of (place_on own rates (Candidate.Altitude a) k).up (pos 60 *ℤ a) rates.alt }
 {}
 
 /// A turn arrives: once half a turn could have been flown, the track is that of the candidate, and

@@ -62,12 +62,12 @@ pub(crate) fn velocity_on_way(
             let track = round(own.trk + steps(k, rates.turn, upper));
             velocity_along(own.gs, track, own.vs)
         }
-        Candidate::Speed(_) => {
+        Candidate::GroundSpeed(_) => {
             let gs = own.gs + steps(k, rates.gs, upper);
             velocity_at_speed(own, gs, track)
         }
-        Candidate::Climb(_) => solid_velocity(present, own.vs + steps(k, rates.vs, upper)),
-        Candidate::Height(_) => solid_velocity(present, steps(1, rates.alt, upper)),
+        Candidate::VerticalSpeed(_) => solid_velocity(present, own.vs + steps(k, rates.vs, upper)),
+        Candidate::Altitude(_) => solid_velocity(present, steps(1, rates.alt, upper)),
     }
 }
 
@@ -122,7 +122,7 @@ pub(crate) fn velocity_from(
 {
     match candidate {
         Candidate::Track(_) => velocity_at(own, rates, candidate, k),
-        Candidate::Speed(_) => velocity_at(own, rates, candidate, k),
+        Candidate::GroundSpeed(_) => velocity_at(own, rates, candidate, k),
         _ => Solid {
             flat: *present,
             up: vertical_speed_at(own, rates, candidate, k),
@@ -142,9 +142,9 @@ pub(crate) fn velocity_at_end(own: &Own, candidate: Candidate, present: &Flat) -
     match candidate {
         Candidate::Hold => solid_velocity(present, own.vs),
         Candidate::Track(c) => velocity_along(own.gs, c, own.vs),
-        Candidate::Speed(g) => velocity_along(g, own.trk, own.vs),
-        Candidate::Climb(w) => solid_velocity(present, w),
-        Candidate::Height(_) => solid_velocity(present, 0),
+        Candidate::GroundSpeed(g) => velocity_along(g, own.trk, own.vs),
+        Candidate::VerticalSpeed(w) => solid_velocity(present, w),
+        Candidate::Altitude(_) => solid_velocity(present, 0),
     }
 }
 
@@ -194,7 +194,7 @@ fn ground_speed_at(own: &Own, rates: &Rates, candidate: Candidate, k: u32) -> i3
     ensures in_range { IsFrom (pos 0) (pos 10000) result }
 {
     match candidate {
-        Candidate::Speed(g) => speed_after(own.gs, g, rates.gs, k) as i32,
+        Candidate::GroundSpeed(g) => speed_after(own.gs, g, rates.gs, k) as i32,
         _ => own.gs,
     }
 }
@@ -209,8 +209,8 @@ fn vertical_speed_at(own: &Own, rates: &Rates, candidate: Candidate, k: u32) -> 
     ensures size { IsWithin 10000 result }
 {
     match candidate {
-        Candidate::Climb(w) => speed_after(own.vs, w, rates.vs, k),
-        Candidate::Height(a) => rise(own.alt, a, rates.alt, k),
+        Candidate::VerticalSpeed(w) => speed_after(own.vs, w, rates.vs, k),
+        Candidate::Altitude(a) => rise(own.alt, a, rates.alt, k),
         _ => i64::from(own.vs),
     }
 }

@@ -78,25 +78,25 @@ impl Trunk {
                 Candidate::Track(c),
                 most,
             ),
-            Candidate::Speed(g) => keep_legs(
+            Candidate::GroundSpeed(g) => keep_legs(
                 &mut self.legs,
                 own,
                 &rates,
-                Candidate::Speed(g),
+                Candidate::GroundSpeed(g),
                 most,
             ),
-            Candidate::Climb(w) => keep_legs(
+            Candidate::VerticalSpeed(w) => keep_legs(
                 &mut self.legs,
                 own,
                 &rates,
-                Candidate::Climb(w),
+                Candidate::VerticalSpeed(w),
                 most,
             ),
-            Candidate::Height(a) => keep_legs(
+            Candidate::Altitude(a) => keep_legs(
                 &mut self.legs,
                 own,
                 &rates,
-                Candidate::Height(a),
+                Candidate::Altitude(a),
                 most,
             ),
         }

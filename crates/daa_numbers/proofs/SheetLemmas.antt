@@ -3,7 +3,7 @@ use Rattle.std.proofs.Common.{◌≡◌, ◌<◌, ◌≤◌, ◌++◌, ◌∙◌
 use Rattle.daa_config.specs.Settings.{Settings}
 use Rattle.daa_engine.specs.Longest.{longest_moment}
 use Rattle.daa_engine.specs.MomentText.{IsMomentText}
-use Rattle.daa_outside.specs.Faults.{HasRisen}
+use Rattle.daa_io.specs.Faults.{HasRisen}
 use Rattle.daa_report.specs.Says.{SaysSome}
 use Rattle.daa_report.specs.declared.writers.SinkFault.{SinkFault}
 use Rattle.daa_state.specs.declared.word.Picture.{Picture}

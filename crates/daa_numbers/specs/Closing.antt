@@ -7,7 +7,7 @@ use Rattle.daa_config.specs.Settings.{Settings, IsCandidateInRange, value_bounds
 use Rattle.daa_config.specs.declared.candidate.Candidate.{Candidate}
 use Rattle.daa_config.specs.declared.candidate.Candidate.TheVariants.{Hold}
 use Rattle.daa_config.specs.declared.kind.Kind.{Kind}
-use Rattle.daa_config.specs.declared.kind.Kind.TheVariants.{Track, Speed, Climb, Height}
+use Rattle.daa_config.specs.declared.kind.Kind.TheVariants.{Track, GroundSpeed, VerticalSpeed, Altitude}
 use Rattle.daa_state.specs.Picture.{aircraft_of}
 use Rattle.daa_state.specs.declared.word.Picture.{Picture}
 use Rattle.daa_closers.specs.Closers.{ArePlacesOf, MeetsSome, MeetsWithinLevels}
@@ -29,9 +29,9 @@ unfoldable pub flight_by : (number value : ℤ) → Option Candidate
 flight_by number value =
     if int_eq number (pos 0) then (if int_eq value (pos 0) then Some Hold else None)
     else if int_eq number (pos 1) then flight_to Track value
-    else if int_eq number (pos 2) then flight_to Speed value
-    else if int_eq number (pos 3) then flight_to Climb value
-    else if int_eq number (pos 4) then flight_to Height value
+    else if int_eq number (pos 2) then flight_to GroundSpeed value
+    else if int_eq number (pos 3) then flight_to VerticalSpeed value
+    else if int_eq number (pos 4) then flight_to Altitude value
     else None
 
 -- from one level up to the other there is one, and all are levels

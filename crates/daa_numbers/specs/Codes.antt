@@ -5,7 +5,7 @@ use Rattle.daa_config.specs.declared.fault.ConfigFault.TheVariants.{TooLong, Not
 use Rattle.daa_config.specs.declared.candidate.Candidate.{Candidate}
 use Rattle.daa_config.specs.declared.candidate.Candidate.TheVariants as goes
 use Rattle.daa_config.specs.declared.kind.Kind.{Kind}
-use Rattle.daa_config.specs.declared.kind.Kind.TheVariants.{Track, Speed, Climb, Height}
+use Rattle.daa_config.specs.declared.kind.Kind.TheVariants.{Track, GroundSpeed, VerticalSpeed, Altitude}
 use Rattle.daa_config.specs.Settings.{Settings}
 use Rattle.daa_resolve.specs.declared.side.Side.{Side}
 use Rattle.daa_resolve.specs.declared.side.Side.TheVariants.{Lower, Upper}
@@ -31,9 +31,9 @@ answer_of (Err fault) = code_of fault
 -- the number of a kind
 abbrev pub kind_number : Kind → ℤ
 kind_number Track = pos 1
-kind_number Speed = pos 2
-kind_number Climb = pos 3
-kind_number Height = pos 4
+kind_number GroundSpeed = pos 2
+kind_number VerticalSpeed = pos 3
+kind_number Altitude = pos 4
 
 -- the number is none of a kind
 abbrev pub IsNoKind : ℤ → Type 0
@@ -52,6 +52,6 @@ IsNoSide number = (side : Side) → side_number side ≢ number
 abbrev pub candidate_by : Candidate → DaaCandidate
 candidate_by goes.Hold = record { kind = pos 0; value = pos 0 }
 candidate_by (goes.Track c) = record { kind = pos 1; value = c }
-candidate_by (goes.Speed g) = record { kind = pos 2; value = g }
-candidate_by (goes.Climb w) = record { kind = pos 3; value = w }
-candidate_by (goes.Height a) = record { kind = pos 4; value = a }
+candidate_by (goes.GroundSpeed g) = record { kind = pos 2; value = g }
+candidate_by (goes.VerticalSpeed w) = record { kind = pos 3; value = w }
+candidate_by (goes.Altitude a) = record { kind = pos 4; value = a }

@@ -25,9 +25,9 @@ fn candidate_numbers(candidate: Candidate) -> DaaCandidate
     match candidate {
         Candidate::Hold => DaaCandidate { kind: 0, value: 0 },
         Candidate::Track(value) => DaaCandidate { kind: 1, value },
-        Candidate::Speed(value) => DaaCandidate { kind: 2, value },
-        Candidate::Climb(value) => DaaCandidate { kind: 3, value },
-        Candidate::Height(value) => DaaCandidate { kind: 4, value },
+        Candidate::GroundSpeed(value) => DaaCandidate { kind: 2, value },
+        Candidate::VerticalSpeed(value) => DaaCandidate { kind: 3, value },
+        Candidate::Altitude(value) => DaaCandidate { kind: 4, value },
     }
 }
 

@@ -28,9 +28,9 @@ fn has_value(kind: Kind, value: &i32) -> bool
 {
     match kind {
         Kind::Track => 0 <= *value && *value <= 359,
-        Kind::Speed => 0 <= *value && *value <= 10_000,
-        Kind::Climb => -10_000 <= *value && *value <= 10_000,
-        Kind::Height => -2_000 <= *value && *value <= 60_000,
+        Kind::GroundSpeed => 0 <= *value && *value <= 10_000,
+        Kind::VerticalSpeed => -10_000 <= *value && *value <= 10_000,
+        Kind::Altitude => -2_000 <= *value && *value <= 60_000,
     }
 }
 
@@ -55,9 +55,9 @@ fn flight_in(kind: &i32, value: &i32) -> Option<Candidate>
     match *kind {
         0 if *value == 0 => Some(Candidate::Hold),
         1 => flight_to(Kind::Track, value),
-        2 => flight_to(Kind::Speed, value),
-        3 => flight_to(Kind::Climb, value),
-        4 => flight_to(Kind::Height, value),
+        2 => flight_to(Kind::GroundSpeed, value),
+        3 => flight_to(Kind::VerticalSpeed, value),
+        4 => flight_to(Kind::Altitude, value),
         _ => None,
     }
 }

@@ -64,9 +64,9 @@ pub(crate) fn kind_in(number: i32) -> Option<Kind>
 {
     match number {
         1 => Some(Kind::Track),
-        2 => Some(Kind::Speed),
-        3 => Some(Kind::Climb),
-        4 => Some(Kind::Height),
+        2 => Some(Kind::GroundSpeed),
+        3 => Some(Kind::VerticalSpeed),
+        4 => Some(Kind::Altitude),
         _ => None,
     }
 }

@@ -3,7 +3,7 @@
 ghost use Rattle.std.specs.Prelude.{◌≡◌, ◌<◌, [], Some, length};
 
 use arrayvec::ArrayVec;
-use daa_outside::{Failed, Sink};
+use daa_io::{Failed, Sink};
 
 /// One byte more than the text of a moment has at most.
 const ROOM: usize = 130_177;

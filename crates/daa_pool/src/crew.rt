@@ -7,7 +7,7 @@ ghost use Rattle.daa_pool.specs.Inside.Pool.{AllReady, AllWorked, IsWorked};
 
 use crate::pool::Pool;
 use crate::seat::Seat;
-use daa_outside::Gate;
+use daa_io::Gate;
 use daa_schedule::{Answers, NoMemory};
 use std::alloc::Global;
 use std::thread;

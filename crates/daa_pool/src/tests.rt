@@ -6,7 +6,7 @@ ghost use Rattle.daa_pool.specs.Seat.{IsSameSeat, IsFree, HasPiece, IsReady, IsD
 ghost use Rattle.daa_pool.specs.Inside.Pool.{AllReady, AllWorked, IsWorked};
 
 use crate::{Look, NoMemory, Part, Piece, Pool, Seat, View, answer_all, unit};
-use daa_outside::{Gate, Meeting, Open};
+use daa_io::{Gate, Meeting, Open};
 use daa_schedule::Answers;
 use std::alloc::{AllocError, Global};
 use std::process::Abort;

@@ -7,7 +7,7 @@ ghost use Rattle.daa_pool.specs.Work.{SettlesMore, GivesUp};
 
 use crate::pool::Pool;
 use crate::seat::{Piece, Seat, unit};
-use daa_outside::Gate;
+use daa_io::Gate;
 use daa_schedule::Answers;
 
 impl Pool {

@@ -1,7 +1,7 @@
 //! The program: its command words, the files of the system, and standard input to standard output.
 #![tactic(auto)]
 
-use daa_outside::{FileShelf, Open, StdSink, StdSource};
+use daa_io::{FileShelf, Open, StdSink, StdSource};
 use daa_replay::run;
 use std::env;
 use std::io::ErrorKind;

@@ -6,7 +6,7 @@ use Rattle.std.proofs.lemmas.Int.{ints}
 use Rattle.daa_config.specs.Candidates.{values_of}
 use Rattle.daa_config.specs.Settings.{Settings, IsAccepted}
 use Rattle.daa_config.specs.declared.kind.Kind.{Kind}
-use Rattle.daa_config.specs.declared.kind.Kind.TheVariants.{Track, Speed, Climb, Height}
+use Rattle.daa_config.specs.declared.kind.Kind.TheVariants.{Track, GroundSpeed, VerticalSpeed, Altitude}
 use Rattle.daa_config.proofs.RangeLemmas.{size_is}
 use Rattle.daa_state.specs.declared.word.Own.{Own}
 use Rattle.daa_resolve.specs.Side.{present_of}
@@ -42,9 +42,9 @@ way_only s Track now v w i j ok a b e =
     let g = subst (λ (z : ℤ). way_of Track now (pos (nat_abs v)) ≡ way_of Track now z) n f in
     let t = turned now (nat_abs v) (nat_abs w) (let h = x.1 in omega (arith, ints, m)) (let h = y.1 in omega (arith, ints, n)) g in
     m ∙ ap (λ (k : ℕ). pos k) t ∙ sym n
-way_only s Speed now v w i j ok a b e = omega (arith, ints)
-way_only s Climb now v w i j ok a b e = omega (arith, ints)
-way_only s Height now v w i j ok a b e = omega (arith, ints)
+way_only s GroundSpeed now v w i j ok a b e = omega (arith, ints)
+way_only s VerticalSpeed now v w i j ok a b e = omega (arith, ints)
+way_only s Altitude now v w i j ok a b e = omega (arith, ints)
 
 by_only : (nearest : Bool) (s : Settings) (kind : Kind) (now v w : ℤ) (i j : ℕ) → IsAccepted s → slice_get (values_of kind s) i ≡ Some v → slice_get (values_of kind s) j ≡ Some w
     → (if nearest then place_of_way (way_of kind now v) else v) ≡ (if nearest then place_of_way (way_of kind now w) else w) → v ≡ w

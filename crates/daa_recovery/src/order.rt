@@ -34,9 +34,9 @@ fn way(kind: Kind, now: &i32, value: &i32) -> i64
     let difference = *value as i64 - *now as i64;
     match kind {
         Kind::Track => turn(&shifted(now, value)),
-        Kind::Speed => difference,
-        Kind::Climb => difference,
-        Kind::Height => difference,
+        Kind::GroundSpeed => difference,
+        Kind::VerticalSpeed => difference,
+        Kind::Altitude => difference,
     }
 }
 

@@ -220,8 +220,8 @@ pub fn candidate_going_to(kind: Kind, value: &i32) -> Candidate
 {
     match kind {
         Kind::Track => Candidate::Track(*value),
-        Kind::Speed => Candidate::Speed(*value),
-        Kind::Climb => Candidate::Climb(*value),
-        Kind::Height => Candidate::Height(*value),
+        Kind::GroundSpeed => Candidate::GroundSpeed(*value),
+        Kind::VerticalSpeed => Candidate::VerticalSpeed(*value),
+        Kind::Altitude => Candidate::Altitude(*value),
     }
 }

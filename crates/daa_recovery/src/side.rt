@@ -46,8 +46,8 @@ pub(crate) fn lead_to(own: &Own, kind: Kind, upper: bool) -> Candidate
 {
     match kind {
         Kind::Track => Candidate::Track((own.trk + if upper { 180 } else { 181 }).rem_euclid(360)),
-        Kind::Speed => Candidate::Speed(if upper { 10000 } else { 0 }),
-        Kind::Climb => Candidate::Climb(if upper { 10000 } else { -10000 }),
-        Kind::Height => Candidate::Height(if upper { 60000 } else { -2000 }),
+        Kind::GroundSpeed => Candidate::GroundSpeed(if upper { 10000 } else { 0 }),
+        Kind::VerticalSpeed => Candidate::VerticalSpeed(if upper { 10000 } else { -10000 }),
+        Kind::Altitude => Candidate::Altitude(if upper { 60000 } else { -2000 }),
     }
 }

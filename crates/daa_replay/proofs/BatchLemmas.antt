@@ -5,7 +5,7 @@ use Rattle.std.specs.Io.KnownBytes.{Appends}
 use Rattle.std.proofs.KnownBytes.{Appends-nil, Appends-trans}
 use Rattle.std.proofs.lemmas.List.Elements.{All-weaker}
 use Rattle.std.proofs.lemmas.List.Folds.{list_any-append}
-use Rattle.daa_bands.specs.Parts.{SplitsByEach}
+use Rattle.daa_bands.specs.Chunks.{SplitsByEach}
 use Rattle.daa_config.specs.Settings.{Settings}
 use Rattle.daa_lines.specs.LinesOf.{Bytes}
 use Rattle.daa_report.specs.Lines.{Text}
@@ -14,15 +14,15 @@ use Rattle.daa_ahead.specs.Bytes.{ToldBytes}
 use Rattle.daa_replay.specs.declared.lines.Event.{Event}
 use Rattle.daa_replay.specs.Moment.{IsEventText}
 use Rattle.daa_replay.specs.Inside.Moment.{BeginsText}
-use Rattle.daa_replay.specs.declared.batch.Part.{Part}
-use Rattle.daa_replay.specs.declared.place.Place.{Place}
+use Rattle.daa_replay.specs.declared.batch.Chunk.{Chunk}
+use Rattle.daa_replay.specs.declared.checkpoint.Checkpoint.{Checkpoint}
 use Rattle.daa_replay.specs.Lines.{is_refusal}
-use Rattle.daa_replay.specs.Inside.Batch.{AddsText, AddsTexts, Fails, IsPart, Shares, StopsWithin, TakesTexts, Tells}
+use Rattle.daa_replay.specs.Inside.Batch.{AddsText, AddsTexts, Fails, IsChunk, Shares, StopsWithin, TakesTexts, Tells}
 use Rattle.daa_replay.specs.Inside.Events.{HasLines}
 use Rattle.daa_replay.specs.Inside.Lines.{Follows}
-use Rattle.daa_replay.specs.Inside.Place.{Gives, IsPlace, Reading, reading_at}
+use Rattle.daa_replay.specs.Inside.Checkpoint.{Gives, IsCheckpoint, Reading, reading_at}
 use Rattle.daa_replay.proofs.GivenLemmas.{or_false}
-use Rattle.daa_replay.proofs.PlaceLemmas.{lines-there}
+use Rattle.daa_replay.proofs.CheckpointLemmas.{lines-there}
 use Rattle.daa_replay.proofs.TextLemmas.{begins-more, texts-append, texts-push}
 
 -- two ways to cut a text in two: the front ends within the first part, or goes on into the second
@@ -243,8 +243,8 @@ module _ (settings : Settings) where
   -- ---- parts of a sheet
 
   -- what was added is a part
-  pub part-added : (piece : Bytes) (old new : Text) (part : Part) → AddsTexts settings piece (reading_at part.from) (reading_at part.upto) part.refused old new → IsPlace piece part.upto
-      → part.start ≡ length old → part.end ≡ length new → IsPart settings piece new part
+  pub part-added : (piece : Bytes) (old new : Text) (part : Chunk) → AddsTexts settings piece (reading_at part.from) (reading_at part.upto) part.refused old new → IsCheckpoint piece part.upto
+      → part.start ≡ length old → part.end ≡ length new → IsChunk settings piece new part
   part-added piece old new part added there start end = record {
     before = old;
     text = added.0;
@@ -255,7 +255,7 @@ module _ (settings : Settings) where
     texts = record { tells = added.1; there = there };
   }
 
-  part_stays : (piece : Bytes) (old new more : Text) → new ≡ old ++ more → (part : Part) → IsPart settings piece old part → IsPart settings piece new part
+  part_stays : (piece : Bytes) (old new more : Text) → new ≡ old ++ more → (part : Chunk) → IsChunk settings piece old part → IsChunk settings piece new part
   part_stays piece old new more grows part p = record {
     before = p.before;
     text = p.text;
@@ -268,10 +268,10 @@ module _ (settings : Settings) where
   }
 
   -- the parts stay where texts are added
-  pub parts-stay : (piece : Bytes) (a b : Reading) (r : Bool) (old new : Text) (parts : List Part) → AddsTexts settings piece a b r old new → All (IsPart settings piece old) parts
-      → All (IsPart settings piece new) parts
+  pub parts-stay : (piece : Bytes) (a b : Reading) (r : Bool) (old new : Text) (parts : List Chunk) → AddsTexts settings piece a b r old new → All (IsChunk settings piece old) parts
+      → All (IsChunk settings piece new) parts
   parts-stay piece a b r old new parts added all =
-      All-weaker (IsPart settings piece old) (IsPart settings piece new) (part_stays piece old new added.0 added.2) parts all
+      All-weaker (IsChunk settings piece old) (IsChunk settings piece new) (part_stays piece old new added.0 added.2) parts all
 
   -- ---- at the sink
 
@@ -326,8 +326,8 @@ module _ (settings : Settings) where
     stops = stops-front t.events text old new t.texts front;
   }
 
-  pub fails-part : (piece : Bytes) (a b : Reading) (r s : Bool) (upto : Place) (text : Text) (old mid new : ToldBytes) → Shares settings piece a b r old mid
-      → Tells settings piece b (reading_at upto) s text → IsPlace piece upto → AppendsFront mid new text → Fails settings piece a old new
+  pub fails-part : (piece : Bytes) (a b : Reading) (r s : Bool) (upto : Checkpoint) (text : Text) (old mid new : ToldBytes) → Shares settings piece a b r old mid
+      → Tells settings piece b (reading_at upto) s text → IsCheckpoint piece upto → AppendsFront mid new text → Fails settings piece a old new
   fails-part piece a b r s upto text old mid new x t there front =
       fails-after piece a b r old mid new x (fails_part piece b (reading_at upto) s text mid new t there.within (lines-there piece upto there) front)
 

@@ -2,9 +2,9 @@
 use Rattle.std.proofs.Common.{◌≡◌, ◌<◌, ◌≤◌, ◌⊎◌, ℕ, Bool, true, false, List, [], ◌∷◌, ◌++◌, length, Option, None, Some, Ok, Err, refl, zero, suc, sym, ap, subst, ◌∙◌, arith, inl, inr, length-append}
 use Rattle.std.specs.Io.KnownBytes.{Consumes}
 use Rattle.std.specs.Prelude.{IsSomeAnd, take}
-use Rattle.daa_outside.specs.Shelf.{Texts, longest_text}
+use Rattle.daa_io.specs.Shelf.{Texts, longest_text}
 use Rattle.daa_judge.specs.declared.found.Found.TheVariants as found
-use Rattle.daa_outside.specs.Faults.{HasRisen}
+use Rattle.daa_io.specs.Faults.{HasRisen}
 use Rattle.daa_ahead.specs.Bytes.{StreamState, IsSpent}
 use Rattle.daa_ahead.specs.Moves.{PassesMost}
 use Rattle.daa_config.specs.ConfigOf.{config_of}

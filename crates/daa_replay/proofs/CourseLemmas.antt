@@ -11,7 +11,7 @@ use Rattle.daa_ahead.specs.declared.ended.Ended.{Ended}
 use Rattle.daa_config.specs.Settings.{Settings}
 use Rattle.daa_engine.specs.declared.engine.Engine.{Engine}
 use Rattle.daa_lines.specs.LinesOf.{Bytes}
-use Rattle.daa_outside.specs.Faults.{HasRisen}
+use Rattle.daa_io.specs.Faults.{HasRisen}
 use Rattle.daa_replay.specs.declared.events.Progress.{Progress}
 use Rattle.daa_replay.specs.declared.batch.Batch.{Batch}
 use Rattle.daa_replay.specs.declared.moment.Context.{Context}
@@ -22,7 +22,7 @@ use Rattle.daa_replay.specs.declared.events.Left.TheVariants as left
 use Rattle.daa_replay.specs.Inside.Batch.{Fails, Shares, StopsWithin, TakesTexts}
 use Rattle.daa_replay.specs.Inside.Events.{CanGive, Gave, HasLines, IsBetween, IsFront, IsGiven}
 use Rattle.daa_replay.specs.Inside.Lines.{Follows}
-use Rattle.daa_replay.specs.Inside.Place.{reading}
+use Rattle.daa_replay.specs.Inside.Checkpoint.{reading}
 use Rattle.daa_replay.specs.Inside.Replay.{Course, course, CanReport, Reaches, Writes, Breaks, Steps}
 use Rattle.daa_replay.proofs.BatchLemmas.{stops-after, takes-more, takes-nothing}
 use Rattle.daa_replay.proofs.GivenLemmas.{as_left, at_start, fed_so_far, given_as, given_first, or_assoc, or_false}

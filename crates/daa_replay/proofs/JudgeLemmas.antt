@@ -1,7 +1,7 @@
 -- What is found as the report of states is compared, event by event.
 use Rattle.std.proofs.Common.{◌≡◌, ◌≢◌, ◌∙◌, ◌<◌, ◌+◌, ◌-◌, ◌^◌, ℕ, Bool, true, List, [], ◌∷◌, ◌++◌, arith, refl, sym, ap, subst, append_assoc, append-nil, length, take}
 use Rattle.daa_ahead.specs.Bytes.{StreamState}
-use Rattle.daa_bands.specs.Parts.{SplitsByEach}
+use Rattle.daa_bands.specs.Chunks.{SplitsByEach}
 use Rattle.daa_fixed.specs.One.{HasOne}
 use Rattle.daa_config.specs.Settings.{Settings, IsAccepted}
 use Rattle.daa_judge.specs.Found.{Finds}
@@ -18,7 +18,7 @@ use Rattle.daa_replay.specs.declared.lines.Event.{Event}
 use Rattle.daa_replay.specs.Inside.Batch.{Tells}
 use Rattle.daa_replay.specs.Inside.Events.{CanGive, Gave, HasLines, IsBetween, IsGiven}
 use Rattle.daa_replay.specs.Inside.Judge.{ComparesBetween, ComparesFirst, ComparesSome, ComparesTexts, Matches, StopsBetween}
-use Rattle.daa_replay.specs.Inside.Place.{Gives, Reading, reading}
+use Rattle.daa_replay.specs.Inside.Checkpoint.{Gives, Reading, reading}
 use Rattle.daa_replay.specs.Moment.{IsEventText, IsReportOf}
 use Rattle.daa_replay.proofs.BatchLemmas.{Passes, gives-join, gives-none}
 use Rattle.daa_replay.proofs.GivenLemmas.{as_left, at_start, given_first}

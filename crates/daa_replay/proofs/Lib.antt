@@ -3,7 +3,7 @@ pub mod FollowsLemmas
 pub mod GivenLemmas
 pub mod TextLemmas
 pub mod ReportLemmas
-pub mod PlaceLemmas
+pub mod CheckpointLemmas
 pub mod BatchLemmas
 pub mod CourseLemmas
 pub mod ReplayLemmas

@@ -3,9 +3,9 @@ use Rattle.std.proofs.Common.{◌≡◌, ◌≢◌, ◌<◌, ℕ, List, subst, l
 use Rattle.std.specs.Prelude.{IfSome, IsSomeAnd, OnErr, OnOk}
 use Rattle.std.proofs.lemmas.Bool.{lt-ltb}
 use Rattle.std.proofs.lemmas.List.{length-replicate}
-use Rattle.daa_outside.specs.Shelf.{Texts, longest_text}
-use Rattle.daa_outside.specs.declared.shelf.FetchFault.{FetchFault}
-use Rattle.daa_outside.specs.declared.shelf.FetchFault.TheVariants as fetch
+use Rattle.daa_io.specs.Shelf.{Texts, longest_text}
+use Rattle.daa_io.specs.declared.shelf.FetchFault.{FetchFault}
+use Rattle.daa_io.specs.declared.shelf.FetchFault.TheVariants as fetch
 use Rattle.daa_config.specs.declared.fault.ConfigFault.{ConfigFault}
 use Rattle.daa_config.specs.declared.fault.ConfigFault.TheVariants.{TooLong}
 use Rattle.daa_config.specs.declared.fault.ConfigFault.TheVariants as config_fault

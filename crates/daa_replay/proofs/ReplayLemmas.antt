@@ -5,7 +5,7 @@ use Rattle.daa_ahead.specs.Bytes.{StreamState, stream_state}
 use Rattle.daa_ahead.specs.Moves as ahead
 use Rattle.daa_config.specs.Settings.{Settings, IsAccepted}
 use Rattle.daa_lines.specs.LinesOf.{Bytes}
-use Rattle.daa_outside.specs.Faults.{HasRisen}
+use Rattle.daa_io.specs.Faults.{HasRisen}
 use Rattle.daa_replay.specs.declared.lines.Event.{Event}
 use Rattle.daa_replay.specs.declared.status.Status.{Status}
 use Rattle.daa_replay.specs.declared.status.Status.TheVariants as status

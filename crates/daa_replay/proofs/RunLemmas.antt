@@ -1,9 +1,9 @@
 -- What a run leaves, by its status.
 use Rattle.std.proofs.Common.{◌≡◌, ◌≢◌, ◌≤◌, ◌==◌, ℕ, List, [], ◌∷◌, Result, Ok, Err, refl, sym, ap, subst, ◌∙◌, arith, inl, inr, if◌then◌else◌}
 use Rattle.std.specs.Prelude.{OnErr, OnOk, Option, length, codes}
-use Rattle.daa_outside.specs.Shelf.{longest_text}
+use Rattle.daa_io.specs.Shelf.{longest_text}
 use Rattle.daa_config.specs.Settings.{Settings}
-use Rattle.daa_outside.specs.Faults.{HasRisen}
+use Rattle.daa_io.specs.Faults.{HasRisen}
 use Rattle.daa_report.specs.Lines.{Text, numbers_line}
 use Rattle.daa_report.specs.Says.{Says}
 use Rattle.daa_words.specs.Task.{Task, Replay, Exercise, Judge}

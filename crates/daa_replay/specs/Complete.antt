@@ -1,7 +1,7 @@
 -- How a run ends if nothing fails, by its words, the shelf and the number of bytes.
 use Rattle.std.specs.Prelude.{ℕ, ◌≡◌, ◌≢◌, ◌<◌, ◌≤◌, ◌⊎◌, ◌++◌, true, List, Option, Some, None, length, take}
-use Rattle.daa_outside.specs.Faults.{HasRisen}
-use Rattle.daa_outside.specs.Shelf.{Texts}
+use Rattle.daa_io.specs.Faults.{HasRisen}
+use Rattle.daa_io.specs.Shelf.{Texts}
 use Rattle.daa_config.specs.Settings.{Settings}
 use Rattle.daa_lines.specs.LinesOf.{Bytes}
 use Rattle.daa_report.specs.Lines.{Text}

@@ -2,7 +2,7 @@
 pub mod Lines
 pub mod Events
 pub mod Moment
-pub mod Place
+pub mod Checkpoint
 pub mod Status
 pub mod Opening
 pub mod Batch

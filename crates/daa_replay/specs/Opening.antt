@@ -1,6 +1,6 @@
 -- What the command words and the shelf give a run before it reads.
 use Rattle.std.specs.Prelude.{ℕ, ◌≡◌, ◌<◌, ◌≤◌, List, Option, Some, None, Ok, Err, IfSome, IsSomeAnd, codes, length}
-use Rattle.daa_outside.specs.Shelf.{Texts, longest_text}
+use Rattle.daa_io.specs.Shelf.{Texts, longest_text}
 use Rattle.daa_config.specs.declared.fault.ConfigFault.{ConfigFault}
 use Rattle.daa_config.specs.ConfigOf.{config_of}
 use Rattle.daa_config.specs.Fault.{code_of}

@@ -2,8 +2,8 @@
 use Rattle.std.specs.Prelude.{ℕ, ◌≡◌, ◌++◌, Option}
 use Rattle.std.specs.Io.KnownBytes.{Appends}
 use Rattle.daa_ahead.specs.Bytes.{StreamState}
-use Rattle.daa_outside.specs.Faults.{HasRisen}
-use Rattle.daa_outside.specs.Shelf.{Texts}
+use Rattle.daa_io.specs.Faults.{HasRisen}
+use Rattle.daa_io.specs.Shelf.{Texts}
 use Rattle.daa_report.specs.Lines.{Text}
 
 -- of a shelf: the texts that it holds, if it shows them, and its fault counter

@@ -1,7 +1,7 @@
 -- What a run of the program leaves at its shelf, its source and its sink, by its status.
 use Rattle.std.specs.Prelude.{ℕ, ◌≡◌, ◌≢◌, ◌≤◌, ◌⊎◌, List, [], ◌∷◌, Option, Some, None, codes}
-use Rattle.daa_outside.specs.Faults.{HasRisen}
-use Rattle.daa_outside.specs.Shelf.{Texts}
+use Rattle.daa_io.specs.Faults.{HasRisen}
+use Rattle.daa_io.specs.Shelf.{Texts}
 use Rattle.daa_config.specs.Settings.{Settings}
 use Rattle.daa_report.specs.Lines.{Text, numbers_line}
 use Rattle.daa_words.specs.Order.{Asked, order_of}

@@ -4,7 +4,7 @@ use Rattle.daa_ahead.specs.Moves.{ReadFails, PassesMost}
 use Rattle.daa_config.specs.Settings.{Settings}
 use Rattle.daa_judge.specs.declared.found.Found.TheVariants as found
 use Rattle.daa_lines.specs.LinesOf.{Bytes}
-use Rattle.daa_outside.specs.Shelf.{Texts, longest_text}
+use Rattle.daa_io.specs.Shelf.{Texts, longest_text}
 use Rattle.daa_report.specs.Lines.{Text}
 use Rattle.daa_exercise.specs.Summary.{IsSummaryOf}
 use Rattle.daa_words.specs.Task.{Task, Replay, Exercise, Judge}

@@ -8,20 +8,20 @@ ghost use Rattle.daa_state.specs.InRange.{IsFormat};
 ghost use Rattle.daa_report.specs.Says.{HasCause, SaysSome};
 ghost use Rattle.daa_replay.specs.Lines.{IsEventInRange};
 ghost use Rattle.daa_replay.specs.Moment.{IsEventText};
-ghost use Rattle.daa_replay.specs.Inside.Batch.{AddsText, AddsTexts, Fails, HasTexts, IsFilled, IsPart, Shares};
+ghost use Rattle.daa_replay.specs.Inside.Batch.{AddsText, AddsTexts, Fails, HasTexts, IsFilled, IsChunk, Shares};
 ghost use Rattle.daa_replay.specs.Inside.Events.{HasLines};
-ghost use Rattle.daa_replay.specs.Inside.Place.{HasLast, IsPlace, reading, reading_at};
+ghost use Rattle.daa_replay.specs.Inside.Checkpoint.{HasLast, IsCheckpoint, reading, reading_at};
 
 use crate::events::{any_refusal, either, next_of_lines};
 use crate::lines::Event;
 use crate::moment::{Context, write_event_alone, write_refusal};
-use crate::place::{Place, place_after, place_in_front};
+use crate::checkpoint::{Checkpoint, place_after, place_in_front};
 use daa_bands::Board;
 use daa_config::Config;
 use daa_engine::{Engine, Room, Tickets, workers_for};
 use daa_judge::Sheet;
 use daa_lines::Lines;
-use daa_outside::{Gate, Sink};
+use daa_io::{Gate, Sink};
 use daa_report::{SinkFault, put};
 use daa_state::{Moments, Word, read_line};
 use std::alloc::Global;
@@ -44,9 +44,9 @@ const MOST_STRETCHES: usize = 512;
 /// A part of a sheet: its bytes from `start` up to `end` are the texts of the events from one place
 /// of a piece to another. `refused` says whether some of these is a refusal.
 #[derive(Clone, Copy)]
-pub(crate) struct Part {
-    pub(crate) from: Place,
-    pub(crate) upto: Place,
+pub(crate) struct Chunk {
+    pub(crate) from: Checkpoint,
+    pub(crate) upto: Checkpoint,
     pub(crate) refused: bool,
     pub(crate) start: usize,
     pub(crate) end: usize,
@@ -55,17 +55,17 @@ pub(crate) struct Part {
 /// The text of a part, from which place to which it goes, and whether some of its events is a
 /// refusal.
 #[derive(Clone, Copy)]
-pub(crate) struct PartText<'a> {
+pub(crate) struct ChunkText<'a> {
     pub(crate) text: &'a [u8],
-    pub(crate) from: Place,
-    pub(crate) upto: Place,
+    pub(crate) from: Checkpoint,
+    pub(crate) upto: Checkpoint,
     pub(crate) refused: bool,
 }
 
 /// Up to which place texts were made or written, and whether some of their events is a refusal.
 #[derive(Clone, Copy)]
 pub(crate) struct Reach {
-    pub(crate) upto: Place,
+    pub(crate) upto: Checkpoint,
     pub(crate) refused: bool,
 }
 
@@ -78,7 +78,7 @@ pub(crate) struct Lane {
     pub(crate) room: Room,
     pub(crate) board: Board,
     pub(crate) sheet: Sheet,
-    pub(crate) parts: Vec<Part>,
+    pub(crate) parts: Vec<Chunk>,
     size: usize,
     most: usize,
 }
@@ -88,7 +88,7 @@ pub(crate) struct Lane {
 #[derive(Drop)]
 pub(crate) struct Batch {
     pub(crate) lanes: Vec<Lane>,
-    places: Vec<Place>,
+    places: Vec<Checkpoint>,
     tried: usize,
 }
 
@@ -167,19 +167,19 @@ impl Lane {
         &mut self,
         config: &Config,
         piece: &[u8],
-        from: Place,
+        from: Checkpoint,
         until: usize,
         lines: &mut Lines,
         moments: &mut Moments,
         gate: &G,
     ) -> Option<Reach>
-        requires there { IsPlace piece.now from }
+        requires there { IsCheckpoint piece.now from }
         requires stands { reading from.done lines.old moments.old ≡ reading_at from }
         ensures added { IfSome result (λ reach. AddsTexts config.now piece.now (reading_at from)
             (reading_at reach.upto) reach.refused self.old.sheet.text self.new.sheet.text) }
         ensures stands { IfSome result (λ reach.
             reading reach.upto.done lines.new moments.new ≡ reading_at reach.upto) }
-        ensures there { IfSome result (λ reach. IsPlace piece.now reach.upto) }
+        ensures there { IfSome result (λ reach. IsCheckpoint piece.now reach.upto) }
         ensures further { IfSome result (λ reach. from.done < reach.upto.done) }
         ensures kept { IfNone result (self.new.sheet.text ≡ self.old.sheet.text) }
         ensures parts { self.new.parts.items ≡ self.old.parts.items }
@@ -209,14 +209,14 @@ impl Lane {
         &mut self,
         config: &Config,
         piece: &[u8],
-        from: Place,
+        from: Checkpoint,
         until: usize,
         gate: &G,
     ) -> Reach
-        requires { IsPlace piece.now from }
+        requires { IsCheckpoint piece.now from }
         ensures added { AddsTexts config.now piece.now (reading_at from) (reading_at result.upto)
             result.refused self.old.sheet.text self.new.sheet.text }
-        ensures there { IsPlace piece.now result.upto }
+        ensures there { IsCheckpoint piece.now result.upto }
         ensures parts { self.new.parts.items ≡ self.old.parts.items }
     {
         let mut lines = from.lines();
@@ -241,9 +241,9 @@ impl Lane {
     }
 
     /// Notes a part of the sheet, if it has an event, and if there is room for it.
-    fn note(&mut self, part: Part)
+    fn note(&mut self, part: Chunk)
         ensures { (settings : Settings) (piece : Bytes)
-            → IsFilled settings piece self.old → IsPart settings piece self.old.sheet.text part
+            → IsFilled settings piece self.old → IsChunk settings piece self.old.sheet.text part
             → IsFilled settings piece self.new }
     {
         if part.from.done < part.upto.done && self.parts.len() < self.parts.capacity() {
@@ -253,8 +253,8 @@ impl Lane {
 
     /// Writes the texts of the events from a place up to a byte on the sheet, behind its other
     /// parts, as far as there is room.
-    fn write<G: Gate>(&mut self, config: &Config, piece: &[u8], from: Place, until: usize, gate: &G)
-        requires there { IsPlace piece.now from }
+    fn write<G: Gate>(&mut self, config: &Config, piece: &[u8], from: Checkpoint, until: usize, gate: &G)
+        requires there { IsCheckpoint piece.now from }
         requires filled { IsFilled config.now piece.now self.old }
         ensures { IsFilled config.now piece.now self.new }
     {
@@ -262,7 +262,7 @@ impl Lane {
         let reach = self.add_moments(config, piece, from, until, gate);
         let end = self.sheet.text().len();
         self.most = self.most.max(end.saturating_sub(start));
-        self.note(Part {
+        self.note(Chunk {
             from,
             upto: reach.upto,
             refused: reach.refused,
@@ -293,7 +293,7 @@ impl Lane {
         &mut self,
         config: &Config,
         piece: &[u8],
-        places: &[Place],
+        places: &[Checkpoint],
         tickets: &Tickets,
         gate: &G,
     )
@@ -315,7 +315,7 @@ impl Lane {
     }
 
     /// The part that begins behind so many bytes, if the sheet has it.
-    fn part_from(&self, done: usize) -> Option<PartText<'_>>
+    fn part_from(&self, done: usize) -> Option<ChunkText<'_>>
         ensures texts { (settings : Settings) (piece : Bytes) → IsFilled settings piece self.now
             → IfSome result
             (λ part. HasTexts settings piece part.from part.upto part.refused part.text.now) }
@@ -323,11 +323,11 @@ impl Lane {
     {
         let parts = self.parts.as_slice();
         let place = parts
-            .binary_search_by_key(&done, |part: &Part| part.from.done)
+            .binary_search_by_key(&done, |part: &Chunk| part.from.done)
             .ok()?;
         let part = parts[place];
         let text = self.sheet.text().get(part.start..part.end)?;
-        Some(PartText {
+        Some(ChunkText {
             text,
             from: part.from,
             upto: part.upto,
@@ -369,7 +369,7 @@ pub(crate) fn place_behind(
     moments: &Moments,
     event: &Event,
     done: usize,
-) -> Option<Place>
+) -> Option<Checkpoint>
     requires last { HasLast event.now moments.now }
     requires going { lines.now.ended ≡ false }
     ensures stands { IfSome result
@@ -425,7 +425,7 @@ fn time_by(line: &[u8], last: Option<u32>) -> Option<u32> {
 /// Guesses places between moments: the given one, and behind it one each so many bytes or more. It
 /// looks at the first letters of most lines alone, and no clause says that it is right: where it is
 /// not, the texts that the workers make from a place on are not used.
-fn guess_places(places: &mut Vec<Place>, piece: &[u8], from: Place, size: usize) {
+fn guess_places(places: &mut Vec<Checkpoint>, piece: &[u8], from: Checkpoint, size: usize) {
     places.clear();
     let mut place = from;
     let mut begin = from.done;
@@ -460,7 +460,7 @@ fn guess_places(places: &mut Vec<Place>, piece: &[u8], from: Place, size: usize)
 }
 
 /// Adds a place, if there is room.
-fn push_place(places: &mut Vec<Place>, place: Place) {
+fn push_place(places: &mut Vec<Checkpoint>, place: Checkpoint) {
     if places.len() < places.capacity() {
         places.push_reserved(place);
     }
@@ -478,7 +478,7 @@ fn fill_lanes<R: Threads + Sync, G: Gate>(
     config: &Config,
     lanes: &mut [Lane],
     piece: &[u8],
-    places: &[Place],
+    places: &[Checkpoint],
     tickets: &Tickets,
     workers: usize,
 )
@@ -535,7 +535,7 @@ pub(crate) fn fill_from<R: Threads + Sync, G: Gate>(
     config: &Config,
     batch: &mut Batch,
     piece: &[u8],
-    from: Place,
+    from: Checkpoint,
 )
     requires { All (IsFilled config.now piece.now) batch.old.lanes.items }
     ensures { All (IsFilled config.now piece.now) batch.new.lanes.items }
@@ -566,7 +566,7 @@ pub(crate) fn fill_from<R: Threads + Sync, G: Gate>(
 }
 
 /// The part that begins behind so many bytes, if a sheet has it.
-fn part_from<'a>(lanes: &'a [Lane], done: usize) -> Option<PartText<'a>>
+fn part_from<'a>(lanes: &'a [Lane], done: usize) -> Option<ChunkText<'a>>
     ensures texts { (settings : Settings) (piece : Bytes) → All (IsFilled settings piece) lanes.now
         → IfSome result
         (λ part. HasTexts settings piece part.from part.upto part.refused part.text.now) }
@@ -581,7 +581,7 @@ fn part_from<'a>(lanes: &'a [Lane], done: usize) -> Option<PartText<'a>>
 }
 
 /// The part that begins at this very place, if a sheet has one that goes on from it.
-pub(crate) fn next_part<'a>(lanes: &'a [Lane], here: &Place) -> Option<PartText<'a>>
+pub(crate) fn next_part<'a>(lanes: &'a [Lane], here: &Checkpoint) -> Option<ChunkText<'a>>
     ensures texts { (settings : Settings) (piece : Bytes) → All (IsFilled settings piece) lanes.now
         → IfSome result
         (λ part. HasTexts settings piece here.now part.upto part.refused part.text.now) }
@@ -601,14 +601,14 @@ fn write_parts<R: Threads + Sync, K: Sink, G: Gate>(
     sink: &mut K,
     batch: &mut Batch,
     piece: &[u8],
-    from: Place,
+    from: Checkpoint,
 ) -> Result<Reach, SinkFault>
-    requires there { IsPlace piece.now from }
+    requires there { IsCheckpoint piece.now from }
     requires filled { All (IsFilled config.now piece.now) batch.old.lanes.items }
     ensures filled { All (IsFilled config.now piece.now) batch.new.lanes.items }
     ensures ok { IfOk result (λ reach. Shares config.now piece.now (reading_at from)
         (reading_at reach.upto) reach.refused (K.taken sink.old) (K.taken sink.new)) }
-    ensures there { IfOk result (λ reach. IsPlace piece.now reach.upto) }
+    ensures there { IfOk result (λ reach. IsCheckpoint piece.now reach.upto) }
     ensures forward { IfOk result (λ reach. from.done ≤ reach.upto.done) }
     ensures err { OnErr result (Fails config.now piece.now (reading_at from) (K.taken sink.old)
         (K.taken sink.new)) }

@@ -6,7 +6,7 @@ ghost use Rattle.daa_lines.specs.LinesOf.{Bytes};
 ghost use Rattle.daa_replay.specs.declared.lines.Event.{Event};
 ghost use Rattle.daa_replay.specs.Lines.{IsEventInRange, events_of, is_refusal};
 ghost use Rattle.daa_replay.specs.Inside.Lines.{Follows, given_with};
-ghost use Rattle.daa_replay.specs.Inside.Place.{HasLast};
+ghost use Rattle.daa_replay.specs.Inside.Checkpoint.{HasLast};
 ghost use Rattle.daa_replay.specs.Inside.Events.{CanGive, HasEnd, HasLines, IsAfter, IsAt, IsBetween, IsGiven, IsMore, events_at_end};
 
 use crate::lines::{Event, take_any, take_end, takes_addition};

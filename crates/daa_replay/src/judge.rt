@@ -8,7 +8,7 @@ ghost use Rattle.daa_judge.specs.declared.found.Found.TheVariants as found;
 ghost use Rattle.daa_replay.specs.Inside.Batch.{IsFilled};
 ghost use Rattle.daa_replay.specs.Inside.Events.{HasLines, IsBetween, IsGiven};
 ghost use Rattle.daa_replay.specs.Inside.Judge.{ComparesBetween, ComparesFirst, ComparesSome, Matches, Stops, StopsBetween, found_in};
-ghost use Rattle.daa_replay.specs.Inside.Place.{IsPlace, reading, reading_at};
+ghost use Rattle.daa_replay.specs.Inside.Checkpoint.{IsCheckpoint, reading, reading_at};
 ghost use Rattle.daa_replay.specs.Lines.{IsEventInRange};
 ghost use Rattle.daa_replay.specs.Judge.{Judged};
 ghost use Rattle.daa_replay.specs.Moment.{IsEventText};
@@ -22,12 +22,12 @@ use crate::batch::{
 use crate::events::{Progress, begin, has_more, next_event, next_of_lines};
 use crate::lines::Event;
 use crate::moment::{Context, write_event_alone};
-use crate::place::{Place, place_in_front};
+use crate::checkpoint::{Checkpoint, place_in_front};
 use crate::status::{Status, status_of};
 use daa_config::Config;
 use daa_engine::Engine;
 use daa_judge::{Found, Matching, Sheet};
-use daa_outside::{Gate, Sink, Source};
+use daa_io::{Gate, Sink, Source};
 use daa_report::{write_differs, write_same};
 use std::alloc::Global;
 use std::thread::Threads;
@@ -111,15 +111,15 @@ fn judge_parts<R: Threads + Sync, S: Source, G: Gate>(
     source: &mut S,
     batch: &mut Batch,
     piece: &[u8],
-    from: Place,
-) -> Result<Place, Found>
-    requires there { IsPlace piece.now from }
+    from: Checkpoint,
+) -> Result<Checkpoint, Found>
+    requires there { IsCheckpoint piece.now from }
     requires filled { All (IsFilled config.now piece.now) batch.old.lanes.items }
     requires room { HasRoom matching.old }
     ensures filled { All (IsFilled config.now piece.now) batch.new.lanes.items }
     ensures room { HasRoom matching.new }
     ensures never_falls { S.faults source.old ≤ S.faults source.new }
-    ensures there { IfOk result (IsPlace piece.now) }
+    ensures there { IfOk result (IsCheckpoint piece.now) }
     ensures forward { IfOk result (λ upto. from.done ≤ upto.done) }
     ensures ok { IfOk result (λ upto. ComparesBetween config.now piece.now (reading_at from)
         (reading_at upto) found.Alike matching.old matching.new

@@ -12,7 +12,7 @@ mod laws;
 mod lines;
 mod moment;
 mod opening;
-mod place;
+mod checkpoint;
 mod program;
 mod replay;
 mod status;

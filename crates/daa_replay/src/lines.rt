@@ -9,7 +9,7 @@ ghost use Rattle.daa_state.specs.WordOf.{word_of};
 ghost use Rattle.daa_state.specs.InRange.{IsFormat, IsWordInRange};
 ghost use Rattle.daa_replay.specs.declared.lines.Event.{Event};
 ghost use Rattle.daa_replay.specs.Inside.Lines.{Follows, given_with, word_step};
-ghost use Rattle.daa_replay.specs.Inside.Place.{HasLast};
+ghost use Rattle.daa_replay.specs.Inside.Checkpoint.{HasLast};
 ghost use Rattle.daa_replay.specs.Lines.{IsEventInRange, events_of, line_event, next_state};
 
 use daa_lines::{InputLine, Lines, Stage};

@@ -9,7 +9,7 @@ ghost use Rattle.daa_replay.specs.Moment.{IsEventText};
 
 use crate::lines::Event;
 use daa_engine::Engine;
-use daa_outside::{Gate, Sink};
+use daa_io::{Gate, Sink};
 use daa_report::{Line, SinkFault, put};
 use std::alloc::Global;
 use std::thread::Threads;

@@ -1,7 +1,7 @@
 //! Makes a run ready: its command words, the configuration that they name, and the engine.
 
 ghost use Rattle.std.specs.Prelude.{◌≡◌, ◌≢◌, ◌≤◌, map, string_bytes, Err, IfOk};
-ghost use Rattle.daa_outside.specs.Faults.{HasRisen};
+ghost use Rattle.daa_io.specs.Faults.{HasRisen};
 ghost use Rattle.daa_words.specs.Order.{IsInRange, TaskIsInRange, meaning, task_of};
 ghost use Rattle.daa_words.specs.Task.{Judge};
 ghost use Rattle.daa_engine.specs.EngineState.{IsWorkerCount};
@@ -11,7 +11,7 @@ ghost use Rattle.daa_replay.specs.Inside.Opening as spec;
 use daa_config::{Config, ConfigFault, read};
 use daa_engine::{Engine, NoMemory};
 use daa_judge::Sheet;
-use daa_outside::{FetchFault, Shelf};
+use daa_io::{FetchFault, Shelf};
 use daa_words::{Order, Task, WordsFault, read_words};
 use std::alloc::Global;
 use std::snapshot::Snapshot;

@@ -14,7 +14,7 @@ use crate::opening::{Ready, Work, open};
 use crate::replay::run_replay;
 use crate::status::{Status, status_of, write_reason};
 use daa_exercise::exercise;
-use daa_outside::{Gate, Shelf, Sink, Source};
+use daa_io::{Gate, Shelf, Sink, Source};
 use std::alloc::Global;
 use std::thread::Threads;
 use std::time::Clock;

@@ -15,7 +15,7 @@ use crate::moment::{Context, write_event};
 use crate::status::Status;
 use daa_ahead::{BUFFER, Calls, Ended, Taker, ahead, in_turn};
 use daa_engine::Engine;
-use daa_outside::{Gate, Sink, Source};
+use daa_io::{Gate, Sink, Source};
 use daa_report::SinkFault;
 use std::alloc::Global;
 use std::thread::Threads;

@@ -7,7 +7,7 @@ ghost use Rattle.daa_ahead.specs.Bytes.{stream_state};
 
 use crate::opening::Unready;
 use daa_config::ConfigFault;
-use daa_outside::Sink;
+use daa_io::Sink;
 use daa_report::{SinkFault, put, write_config};
 
 /// How a run ended.

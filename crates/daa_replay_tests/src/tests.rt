@@ -9,7 +9,7 @@ mod judge_batch;
 mod workers;
 
 use daa_config::examples::ONE_LEVEL;
-use daa_outside::{
+use daa_io::{
     CalmShelf, CalmSource, Gate, Meeting, MemShelf, MemSink, MemSource, Open, Shelf, Sink, Source,
     Void,
 };

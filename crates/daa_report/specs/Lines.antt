@@ -4,7 +4,7 @@ use Rattle.std.specs.Fmt.{signed_decimal}
 use Rattle.std.specs.List.{flat_map}
 use Rattle.std.specs.Option.{option_map_or}
 use Rattle.daa_config.specs.declared.kind.Kind.{Kind}
-use Rattle.daa_config.specs.declared.kind.Kind.TheVariants.{Track, Speed, Climb, Height}
+use Rattle.daa_config.specs.declared.kind.Kind.TheVariants.{Track, GroundSpeed, VerticalSpeed, Altitude}
 use Rattle.daa_config.specs.declared.candidate.Resolution.{Resolution}
 use Rattle.daa_config.specs.declared.candidate.Resolution.TheVariants.{Keep, To, Nothing}
 
@@ -15,9 +15,9 @@ Text = List ℕ
 -- the word of a kind
 abbrev pub kind_word : Kind → Text
 kind_word Track = codes "track"
-kind_word Speed = codes "gs"
-kind_word Climb = codes "vs"
-kind_word Height = codes "alt"
+kind_word GroundSpeed = codes "gs"
+kind_word VerticalSpeed = codes "vs"
+kind_word Altitude = codes "alt"
 
 -- the words of a kind's lower and upper side
 abbrev pub side_words : Kind → Text × Text

@@ -12,9 +12,9 @@ pub fn kind_word(kind: Kind) -> &'static str
 {
     match kind {
         Kind::Track => "track",
-        Kind::Speed => "gs",
-        Kind::Climb => "vs",
-        Kind::Height => "alt",
+        Kind::GroundSpeed => "gs",
+        Kind::VerticalSpeed => "vs",
+        Kind::Altitude => "alt",
     }
 }
 
@@ -25,9 +25,9 @@ pub(crate) fn lower_word(kind: Kind) -> &'static str
 {
     match kind {
         Kind::Track => "left",
-        Kind::Speed => "down",
-        Kind::Climb => "down",
-        Kind::Height => "down",
+        Kind::GroundSpeed => "down",
+        Kind::VerticalSpeed => "down",
+        Kind::Altitude => "down",
     }
 }
 
@@ -38,8 +38,8 @@ pub(crate) fn upper_word(kind: Kind) -> &'static str
 {
     match kind {
         Kind::Track => "right",
-        Kind::Speed => "up",
-        Kind::Climb => "up",
-        Kind::Height => "up",
+        Kind::GroundSpeed => "up",
+        Kind::VerticalSpeed => "up",
+        Kind::Altitude => "up",
     }
 }

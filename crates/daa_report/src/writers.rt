@@ -7,7 +7,7 @@ ghost use Rattle.daa_report.specs.Says.{Says};
 
 use crate::line::Line;
 use daa_config::{Kind, Resolution};
-use daa_outside::{Failed, Sink};
+use daa_io::{Failed, Sink};
 use daa_state::Id;
 use thiserror::Error;
 

@@ -1,7 +1,7 @@
 //! Each line once, in the bytes of its format.
 
 use daa_config::{Kind, Resolution};
-use daa_outside::MemSink;
+use daa_io::MemSink;
 use daa_report::{
     HeldLines, Line, SinkFault, put, write_alert, write_band, write_config, write_differs,
     write_done, write_last, write_moment, write_now, write_recover, write_refused, write_resolve,
@@ -62,23 +62,23 @@ fn each_band_and_answer_is_written(rt: HostRuntime) -> Result<(), Fail> {
     let (keep, none) = (Resolution::Keep, Resolution::Nothing);
     let said = [
         write_band(&mut out, Kind::Track, 0, 270, 0),
-        write_band(&mut out, Kind::Speed, 3600, 10000, 1),
-        write_band(&mut out, Kind::Climb, -5000, -100, 2),
-        write_band(&mut out, Kind::Height, -2000, 60000, 4),
+        write_band(&mut out, Kind::GroundSpeed, 3600, 10000, 1),
+        write_band(&mut out, Kind::VerticalSpeed, -5000, -100, 2),
+        write_band(&mut out, Kind::Altitude, -2000, 60000, 4),
         write_resolve(&mut out, Kind::Track, Resolution::To(359), none),
-        write_resolve(&mut out, Kind::Speed, keep, keep),
+        write_resolve(&mut out, Kind::GroundSpeed, keep, keep),
         write_resolve(
             &mut out,
-            Kind::Climb,
+            Kind::VerticalSpeed,
             Resolution::To(-200),
             Resolution::To(0),
         ),
-        write_resolve(&mut out, Kind::Height, none, Resolution::To(1500)),
+        write_resolve(&mut out, Kind::Altitude, none, Resolution::To(1500)),
         write_last(&mut out, Kind::Track, Some(0)),
-        write_last(&mut out, Kind::Height, Some(179)),
-        write_last(&mut out, Kind::Speed, None),
-        write_recover(&mut out, Kind::Climb, Some((179, -10000))),
-        write_recover(&mut out, Kind::Speed, None),
+        write_last(&mut out, Kind::Altitude, Some(179)),
+        write_last(&mut out, Kind::GroundSpeed, None),
+        write_recover(&mut out, Kind::VerticalSpeed, Some((179, -10000))),
+        write_recover(&mut out, Kind::GroundSpeed, None),
     ];
     for one in said {
         assert_eq!(rt; one, Ok(()));

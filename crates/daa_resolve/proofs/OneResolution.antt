@@ -7,7 +7,7 @@ use Rattle.std.proofs.lemmas.Option.{slice_get_within}
 use Rattle.daa_config.specs.Settings.{Settings, IsAccepted, IsInBounds, value_bounds}
 use Rattle.daa_config.specs.Candidates.{values_of, grid_of}
 use Rattle.daa_config.specs.declared.kind.Kind.{Kind}
-use Rattle.daa_config.specs.declared.kind.Kind.TheVariants.{Track, Speed, Climb, Height}
+use Rattle.daa_config.specs.declared.kind.Kind.TheVariants.{Track, GroundSpeed, VerticalSpeed, Altitude}
 use Rattle.daa_config.specs.declared.candidate.Resolution.{Resolution}
 use Rattle.daa_config.specs.declared.candidate.Resolution.TheVariants.{Keep, To, Nothing}
 use Rattle.daa_config.proofs.GridLemmas.{value_there}
@@ -76,9 +76,9 @@ module _ (Covered : ℕ → ℕ → Type 0) (s : Settings) (own : Own) (ok : IsA
       let g = subst (λ (z : ℤ). distance_of Track side (present_of Track own) (pos (nat_abs v)) ≡ distance_of Track side (present_of Track own) z) n f in
       let t = turn_only side (present_of Track own) (nat_abs v) (nat_abs w) (let h = x.1 in omega (arith, ints, m)) (let h = y.1 in omega (arith, ints, n)) g in
       m ∙ ap (λ (k : ℕ). pos k) t ∙ sym n
-  far_only Speed side p q v w a b e = way_only side (present_of Speed own) v w e
-  far_only Climb side p q v w a b e = way_only side (present_of Climb own) v w e
-  far_only Height side p q v w a b e = way_only side (present_of Height own) v w e
+  far_only GroundSpeed side p q v w a b e = way_only side (present_of GroundSpeed own) v w e
+  far_only VerticalSpeed side p q v w a b e = way_only side (present_of VerticalSpeed own) v w e
+  far_only Altitude side p q v w a b e = way_only side (present_of Altitude own) v w e
 
   both : (x y : ℤ) → x ≤ℤ y → y ≤ℤ x → x ≡ y
   both x y h k = omega (arith, ints)

@@ -8,7 +8,7 @@ use Rattle.daa_config.specs.Settings.{Settings, IsAccepted}
 use Rattle.daa_config.specs.declared.candidate.Resolution.{Resolution}
 use Rattle.daa_config.specs.declared.candidate.Resolution.TheVariants.{Keep, To, Nothing}
 use Rattle.daa_config.specs.declared.kind.Kind.{Kind}
-use Rattle.daa_config.specs.declared.kind.Kind.TheVariants.{Track, Speed, Climb, Height}
+use Rattle.daa_config.specs.declared.kind.Kind.TheVariants.{Track, GroundSpeed, VerticalSpeed, Altitude}
 use Rattle.daa_config.proofs.GridLemmas.{get-values}
 use Rattle.daa_fixed.proofs.Decidable.{IsDecidable, both_decided, some_decided}
 use Rattle.daa_state.specs.declared.word.Own.{Own}
@@ -58,12 +58,12 @@ within_decided low high angle = both_decided (low ≤ℤ angle) (angle ≤ℤ hi
 side_decided : (kind : Kind) (side : Side) (now value : ℤ) → IsDecidable (IsOnSide kind side now value)
 side_decided Track Upper now value = within_decided (pos 1) (pos 180) (distance_of Track Upper now value)
 side_decided Track Lower now value = within_decided (pos 0) (pos 179) (distance_of Track Lower now value)
-side_decided Speed Upper now value = below_decided now value
-side_decided Speed Lower now value = at_most_decided value now
-side_decided Climb Upper now value = below_decided now value
-side_decided Climb Lower now value = at_most_decided value now
-side_decided Height Upper now value = below_decided now value
-side_decided Height Lower now value = at_most_decided value now
+side_decided GroundSpeed Upper now value = below_decided now value
+side_decided GroundSpeed Lower now value = at_most_decided value now
+side_decided VerticalSpeed Upper now value = below_decided now value
+side_decided VerticalSpeed Lower now value = at_most_decided value now
+side_decided Altitude Upper now value = below_decided now value
+side_decided Altitude Lower now value = at_most_decided value now
 
 -- ---- open candidates
 

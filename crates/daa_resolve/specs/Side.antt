@@ -3,7 +3,7 @@ use Rattle.std.specs.Prelude.{ℤ, pos, ◌-ℤ◌, ◌≤ℤ◌, ◌<ℤ◌}
 use Rattle.std.specs.Int.{int_rem_euclid}
 use Rattle.daa_config.specs.Limits.{full_turn}
 use Rattle.daa_config.specs.declared.kind.Kind.{Kind}
-use Rattle.daa_config.specs.declared.kind.Kind.TheVariants.{Track, Speed, Climb, Height}
+use Rattle.daa_config.specs.declared.kind.Kind.TheVariants.{Track, GroundSpeed, VerticalSpeed, Altitude}
 use Rattle.daa_state.specs.declared.word.Own.{Own}
 use Rattle.daa_resolve.specs.declared.side.Side.{Side}
 use Rattle.daa_resolve.specs.declared.side.Side.TheVariants.{Lower, Upper}
@@ -11,9 +11,9 @@ use Rattle.daa_resolve.specs.declared.side.Side.TheVariants.{Lower, Upper}
 -- the ownship's present value of what a kind changes: its track, ground speed, vertical speed or altitude
 abbrev pub present_of : Kind → Own → ℤ
 present_of Track own = own.trk
-present_of Speed own = own.gs
-present_of Climb own = own.vs
-present_of Height own = own.alt
+present_of GroundSpeed own = own.gs
+present_of VerticalSpeed own = own.vs
+present_of Altitude own = own.alt
 
 -- by how much a value is greater than the present one, or for Lower, less
 abbrev pub way_of : Side → ℤ → ℤ → ℤ

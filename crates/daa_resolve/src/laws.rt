@@ -4,7 +4,7 @@ ghost use Rattle.std.specs.Prelude.{◌≡◌, Bool, List, ℕ, pos, IsTrue};
 ghost use Rattle.daa_config.specs.Settings.{Settings, IsAccepted};
 ghost use Rattle.daa_config.specs.declared.candidate.Resolution.{Resolution};
 ghost use Rattle.daa_config.specs.declared.kind.Kind.{Kind};
-ghost use Rattle.daa_config.specs.declared.kind.Kind.TheVariants.{Track, Speed, Height};
+ghost use Rattle.daa_config.specs.declared.kind.Kind.TheVariants.{Track, GroundSpeed, Altitude};
 ghost use Rattle.daa_state.specs.declared.word.Own.{Own};
 ghost use Rattle.daa_bands.specs.Board.{HasLevelOn, IsBoardOf};
 ghost use Rattle.daa_resolve.specs.declared.side.Side.{Side};
@@ -44,7 +44,7 @@ pub fn worked_examples()
     ensures not_left_half { IsOnSide Track Lower (pos 90) (pos 270) → ⊥ }
     ensures present_track { IsOnSide Track Lower (pos 90) (pos 90) }
     ensures not_right { IsOnSide Track Upper (pos 90) (pos 90) → ⊥ }
-    ensures present_speed { IsOnSide Speed Lower (pos 3600) (pos 3600) }
-    ensures not_up { IsOnSide Speed Upper (pos 3600) (pos 3600) → ⊥ }
-    ensures down { distance_of Height Lower (pos 1000) (pos 400) ≡ pos 600 }
+    ensures present_speed { IsOnSide GroundSpeed Lower (pos 3600) (pos 3600) }
+    ensures not_up { IsOnSide GroundSpeed Upper (pos 3600) (pos 3600) → ⊥ }
+    ensures down { distance_of Altitude Lower (pos 1000) (pos 400) ≡ pos 600 }
 {}

@@ -3,7 +3,7 @@
 ghost use Rattle.std.specs.Prelude.{◌≡◌, ◌↔◌, IsTrue, pos};
 ghost use Rattle.std.specs.Int.{int_rem_euclid};
 ghost use Rattle.daa_config.specs.Limits.{full_turn};
-ghost use Rattle.daa_config.specs.declared.kind.Kind.TheVariants.{Track, Speed};
+ghost use Rattle.daa_config.specs.declared.kind.Kind.TheVariants.{Track, GroundSpeed};
 ghost use Rattle.daa_resolve.specs.Side.{present_of, way_of, distance_of, IsOnSide};
 
 use daa_config::Kind;
@@ -26,9 +26,9 @@ pub fn present(own: &Own, kind: Kind) -> i32
 {
     match kind {
         Kind::Track => own.trk,
-        Kind::Speed => own.gs,
-        Kind::Climb => own.vs,
-        Kind::Height => own.alt,
+        Kind::GroundSpeed => own.gs,
+        Kind::VerticalSpeed => own.vs,
+        Kind::Altitude => own.alt,
     }
 }
 
@@ -56,9 +56,9 @@ pub(crate) fn distance(kind: Kind, side: Side, now: &i32, value: &i32) -> i64
     let way = way(side, now, value);
     match kind {
         Kind::Track => angle(&way),
-        Kind::Speed => way,
-        Kind::Climb => way,
-        Kind::Height => way,
+        Kind::GroundSpeed => way,
+        Kind::VerticalSpeed => way,
+        Kind::Altitude => way,
     }
 }
 
@@ -75,7 +75,7 @@ fn is_turn(side: Side, now: &i32, value: &i32) -> bool
 
 /// Whether a value is on a side of the present one, on the other kinds.
 fn is_beyond(side: Side, now: &i32, value: &i32) -> bool
-    ensures { IsTrue result ↔ IsOnSide Speed side now.now value.now }
+    ensures { IsTrue result ↔ IsOnSide GroundSpeed side now.now value.now }
 {
     match side {
         Side::Upper => *value > *now,
@@ -89,8 +89,8 @@ pub(crate) fn is_on_side(kind: Kind, side: Side, now: &i32, value: &i32) -> bool
 {
     match kind {
         Kind::Track => is_turn(side, now, value),
-        Kind::Speed => is_beyond(side, now, value),
-        Kind::Climb => is_beyond(side, now, value),
-        Kind::Height => is_beyond(side, now, value),
+        Kind::GroundSpeed => is_beyond(side, now, value),
+        Kind::VerticalSpeed => is_beyond(side, now, value),
+        Kind::Altitude => is_beyond(side, now, value),
     }
 }

@@ -6,7 +6,7 @@ use Rattle.std.proofs.lemmas.Option.{same_Some, slice_get_within}
 use Rattle.daa_config.specs.declared.candidate.Candidate.{Candidate}
 use Rattle.daa_config.specs.declared.candidate.Candidate.TheVariants.{Hold}
 use Rattle.daa_config.specs.declared.kind.Kind.{Kind}
-use Rattle.daa_config.specs.declared.kind.Kind.TheVariants.{Track, Speed, Climb, Height}
+use Rattle.daa_config.specs.declared.kind.Kind.TheVariants.{Track, GroundSpeed, VerticalSpeed, Altitude}
 use Rattle.daa_config.specs.Candidates.{grid_of, values_of, candidates_of, candidate_to, start_of, IsCandidateOf}
 use Rattle.daa_config.specs.Settings.{Settings, IsAccepted, IsCandidateInRange}
 use Rattle.daa_config.proofs.GridLemmas.{value_there}
@@ -36,10 +36,10 @@ module _ (s : Settings) (a : IsAccepted s) (index : ℕ) (candidate : Candidate)
       let e = whole_ends s in
       let l = slice_get_within (candidates_of s) index candidate there in
       ⊎_elim is_hold (λ g. ⊎_elim (λ h. is_going Track g (omega (arith, h, t.speed)))
-      (λ g. ⊎_elim (λ h. is_going Speed g (omega (arith, h, t.climb)))
-      (λ g. ⊎_elim (λ h. is_going Climb g (omega (arith, h, t.height)))
-      (λ g. is_going Height g (omega (arith, l, e)))
-      (cases_lt index (start_of Height s)))
-      (cases_lt index (start_of Climb s)))
-      (cases_lt index (start_of Speed s)))
+      (λ g. ⊎_elim (λ h. is_going GroundSpeed g (omega (arith, h, t.climb)))
+      (λ g. ⊎_elim (λ h. is_going VerticalSpeed g (omega (arith, h, t.height)))
+      (λ g. is_going Altitude g (omega (arith, l, e)))
+      (cases_lt index (start_of Altitude s)))
+      (cases_lt index (start_of VerticalSpeed s)))
+      (cases_lt index (start_of GroundSpeed s)))
       (cases_lt index (start_of Track s))

@@ -3,7 +3,7 @@ use Rattle.std.proofs.Common.{IsTrue, ◌≡◌, ℕ, ℤ, ◌+◌, ◌-◌, ◌
 use Rattle.std.proofs.lemmas.Bool.{cases_eq, cases_lt}
 use Rattle.std.proofs.lemmas.Option.{slice_get_within}
 use Rattle.daa_config.specs.declared.kind.Kind.{Kind}
-use Rattle.daa_config.specs.declared.kind.Kind.TheVariants.{Track, Speed, Climb, Height}
+use Rattle.daa_config.specs.declared.kind.Kind.TheVariants.{Track, GroundSpeed, VerticalSpeed, Altitude}
 use Rattle.daa_config.specs.declared.level.Level.{Level}
 use Rattle.daa_config.specs.Candidates.{candidate_to}
 use Rattle.daa_config.specs.Settings.{Settings, IsLevelAt}
@@ -48,20 +48,20 @@ module _ (settings : Settings) (own : Own) (aircraft : Traffic) where
 
   -- a level adds the kinds that have seconds
   pub idle_by : (turns climbs : Bool) (level : Level) (heights way : Seconds) → (turns ≡ false → level.lookahead ≤ heights.begin) → (climbs ≡ false → level.lookahead ≤ way.begin)
-      → AreSecondsOf settings own aircraft Track level.volume level.lookahead heights → AreSecondsOf settings own aircraft Speed level.volume level.lookahead heights
-      → AreSecondsOf settings own aircraft Climb level.volume level.lookahead way → AreSecondsOf settings own aircraft Height level.volume level.lookahead way
+      → AreSecondsOf settings own aircraft Track level.volume level.lookahead heights → AreSecondsOf settings own aircraft GroundSpeed level.volume level.lookahead heights
+      → AreSecondsOf settings own aircraft VerticalSpeed level.volume level.lookahead way → AreSecondsOf settings own aircraft Altitude level.volume level.lookahead way
       → IsIdleAt settings own aircraft level (record { turns = turns; climbs = climbs })
   idle_by turns climbs level heights way t c a b d e Track n z = never_met Track level heights a (t n) z
-  idle_by turns climbs level heights way t c a b d e Speed n z = never_met Speed level heights b (t n) z
-  idle_by turns climbs level heights way t c a b d e Climb n z = never_met Climb level way d (c n) z
-  idle_by turns climbs level heights way t c a b d e Height n z = never_met Height level way e (c n) z
+  idle_by turns climbs level heights way t c a b d e GroundSpeed n z = never_met GroundSpeed level heights b (t n) z
+  idle_by turns climbs level heights way t c a b d e VerticalSpeed n z = never_met VerticalSpeed level way d (c n) z
+  idle_by turns climbs level heights way t c a b d e Altitude n z = never_met Altitude level way e (c n) z
 
 -- and keeps the others
 pub needs_more : (needs : Needs) (turns climbs : Bool) → (turns ≡ false → needs.turns ≡ false) → (climbs ≡ false → needs.climbs ≡ false) → NeedsMore needs (record { turns = turns; climbs = climbs })
 needs_more needs turns climbs t c Track n = t n
-needs_more needs turns climbs t c Speed n = t n
-needs_more needs turns climbs t c Climb n = c n
-needs_more needs turns climbs t c Height n = c n
+needs_more needs turns climbs t c GroundSpeed n = t n
+needs_more needs turns climbs t c VerticalSpeed n = c n
+needs_more needs turns climbs t c Altitude n = c n
 
 -- where every kind is needed none is idle
 pub all_needed : (settings : Settings) (own : Own) (aircraft : Traffic) (needs : Needs) → ((kind : Kind) → IsTrue (is_needed needs kind)) → AreIdle settings own aircraft needs

@@ -11,7 +11,7 @@ use Rattle.daa_taumod.specs.Volume.{Violates, ViolatesVertically}
 use Rattle.daa_vwindow.specs.Window.{IsWindow}
 use Rattle.daa_config.specs.declared.candidate.Candidate.TheVariants.{Hold}
 use Rattle.daa_config.specs.declared.kind.Kind.{Kind}
-use Rattle.daa_config.specs.declared.kind.Kind.TheVariants.{Track, Speed, Climb, Height}
+use Rattle.daa_config.specs.declared.kind.Kind.TheVariants.{Track, GroundSpeed, VerticalSpeed, Altitude}
 use Rattle.daa_config.specs.Candidates.{candidate_to}
 use Rattle.daa_config.specs.declared.level.Level.{Level}
 use Rattle.daa_config.specs.Settings.{Settings, IsLevelInRange, rates_of}
@@ -121,6 +121,6 @@ module _ (settings : Settings) (own : Own) (aircraft : Traffic) (level : Level) 
     (only : AreSecondsInHeight leg level.volume turns) (all : HoldsSometime leg.secs (Violates (in_plane leg) level.volume) → climbs.begin ≡ 0) (end : climbs.end ≡ 180) where
   pub all_windows : AreWindowsOf settings own aircraft level (record { turns = turns; climbs = climbs })
   all_windows Track = by_heights settings own aircraft level.volume level.lookahead leg present Track turns in_range.lookahead_most (λ z. track-keeps own (rates_of settings) z) only
-  all_windows Speed = by_heights settings own aircraft level.volume level.lookahead leg present Speed turns in_range.lookahead_most (λ z. speed-keeps own (rates_of settings) z) only
-  all_windows Climb = by_way settings own aircraft level.volume level.lookahead leg present Climb climbs (λ z. climb-keeps own (rates_of settings) z) all end
-  all_windows Height = by_way settings own aircraft level.volume level.lookahead leg present Height climbs (λ z. height-keeps own (rates_of settings) z) all end
+  all_windows GroundSpeed = by_heights settings own aircraft level.volume level.lookahead leg present GroundSpeed turns in_range.lookahead_most (λ z. speed-keeps own (rates_of settings) z) only
+  all_windows VerticalSpeed = by_way settings own aircraft level.volume level.lookahead leg present VerticalSpeed climbs (λ z. climb-keeps own (rates_of settings) z) all end
+  all_windows Altitude = by_way settings own aircraft level.volume level.lookahead leg present Altitude climbs (λ z. height-keeps own (rates_of settings) z) all end

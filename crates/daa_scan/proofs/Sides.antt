@@ -9,7 +9,7 @@ use Rattle.daa_config.specs.declared.candidate.Candidate.{Candidate}
 use Rattle.daa_config.specs.declared.candidate.Candidate.TheVariants.{Hold}
 use Rattle.daa_config.specs.declared.config.Rates.{Rates}
 use Rattle.daa_config.specs.declared.kind.Kind.{Kind}
-use Rattle.daa_config.specs.declared.kind.Kind.TheVariants.{Track, Speed, Climb, Height}
+use Rattle.daa_config.specs.declared.kind.Kind.TheVariants.{Track, GroundSpeed, VerticalSpeed, Altitude}
 use Rattle.daa_config.specs.declared.level.Level.{Level}
 use Rattle.daa_config.specs.Candidates.{candidate_to, candidates_of}
 use Rattle.daa_config.specs.Settings.{Settings, IsLevelAt, rates_of}
@@ -72,12 +72,12 @@ next_led settings own needs most index trunks legs inside h is = record {
 trunk_index_small : (kind : Kind) (upper : Bool) → trunk_index kind upper < 8
 trunk_index_small Track true = omega arith
 trunk_index_small Track false = omega arith
-trunk_index_small Speed true = omega arith
-trunk_index_small Speed false = omega arith
-trunk_index_small Climb true = omega arith
-trunk_index_small Climb false = omega arith
-trunk_index_small Height true = omega arith
-trunk_index_small Height false = omega arith
+trunk_index_small GroundSpeed true = omega arith
+trunk_index_small GroundSpeed false = omega arith
+trunk_index_small VerticalSpeed true = omega arith
+trunk_index_small VerticalSpeed false = omega arith
+trunk_index_small Altitude true = omega arith
+trunk_index_small Altitude false = omega arith
 
 -- all of them lead
 pub all_led : (settings : Settings) (own : Own) (needs : Needs) (most index : ℕ) (trunks : List (List OwnLeg)) → 8 ≤ index
@@ -134,9 +134,9 @@ past_of round kind candidate value end e past k b over v = past value k b over (
 leads : (own : Own) (kind : Kind) (upper : Bool) (z : ℤ) → (w : ℤ) × (lead_of own (candidate_to kind z) upper ≡ candidate_to kind w)
 unfolding lead_of
 leads own Track upper z = (_, refl)
-leads own Speed upper z = (_, refl)
-leads own Climb upper z = (_, refl)
-leads own Height upper z = (_, refl)
+leads own GroundSpeed upper z = (_, refl)
+leads own VerticalSpeed upper z = (_, refl)
+leads own Altitude upper z = (_, refl)
 
 -- where a trail begins: the seconds before the kind's are walked, and the legs that are clear
 module _ (round : Round) (kind : Kind) (seconds : Seconds) (h : AreSecondsOf (settings_in round) (own_in round) (aircraft_in round) kind round.level.volume round.level.lookahead seconds)

@@ -12,7 +12,7 @@ use Rattle.daa_heading.specs.Heading.{velocity_of}
 use Rattle.daa_heading.proofs.Sines.{east-within, north-within}
 use Rattle.daa_heading.proofs.Circle.{velocity-short}
 use Rattle.daa_config.specs.declared.candidate.Candidate.{Candidate}
-use Rattle.daa_config.specs.declared.candidate.Candidate.TheVariants.{Hold, Track, Speed, Climb, Height}
+use Rattle.daa_config.specs.declared.candidate.Candidate.TheVariants.{Hold, Track, GroundSpeed, VerticalSpeed, Altitude}
 use Rattle.daa_config.specs.declared.kind.Kind.{Kind}
 use Rattle.daa_config.specs.declared.kind.Kind.TheVariants as kind
 use Rattle.daa_config.specs.Candidates.{grid_of, least_of, greatest_of, IsCandidateOf}
@@ -29,12 +29,12 @@ use Rattle.daa_legs.proofs.ClosedForms.{rem_range}
 
 -- no ground speed of a listed candidate is greater
 abbrev pub top_of : Settings → Own → ℤ
-top_of settings own = int_max own.gs (greatest_of kind.Speed settings)
+top_of settings own = int_max own.gs (greatest_of kind.GroundSpeed settings)
 
 -- no vertical speed is greater
 abbrev pub rise_of : Settings → Own → ℤ
 rise_of settings own =
-    int_max (int_max (pos (unsigned_abs own.vs)) (pos (unsigned_abs (least_of kind.Climb settings)))) (int_max (pos (unsigned_abs (greatest_of kind.Climb settings))) settings.numbers.alt.rate)
+    int_max (int_max (pos (unsigned_abs own.vs)) (pos (unsigned_abs (least_of kind.VerticalSpeed settings)))) (int_max (pos (unsigned_abs (greatest_of kind.VerticalSpeed settings))) settings.numbers.alt.rate)
 
 max_left : (x y : ℤ) → x ≤ℤ int_max x y
 max_left x y = omega (arith, ints, int_max_is x y)
@@ -64,61 +64,61 @@ greatest_in k s a = (value_there k s (count_of (grid_of k s) - 1) a (omega (arit
 module _ (settings : Settings) (own : Own) (settled : IsAccepted settings) (o : IsOwnInRange own) where
   top-small : IsFrom (pos 0) (pos 10000) (top_of settings own)
   top-small = record {
-    least = omega (arith, ints, o.gs.0, max_left own.gs (greatest_of kind.Speed settings));
-    most = max_least _ _ _ o.gs.1 (greatest_in kind.Speed settings settled).most;
+    least = omega (arith, ints, o.gs.0, max_left own.gs (greatest_of kind.GroundSpeed settings));
+    most = max_least _ _ _ o.gs.1 (greatest_in kind.GroundSpeed settings settled).most;
   }
 
   track_on-in_range : (candidate : Candidate) (k : ℕ) → IsFrom (pos 0) (pos 359) (track_on own (rates_of settings) candidate k)
   unfolding track_on
   track_on-in_range Hold k = (state.own_track o)
   track_on-in_range (Track c) k = turned-in_range own.trk c (pos k *ℤ settings.numbers.turn_rate)
-  track_on-in_range (Speed c) k = (state.own_track o)
-  track_on-in_range (Climb c) k = (state.own_track o)
-  track_on-in_range (Height c) k = (state.own_track o)
+  track_on-in_range (GroundSpeed c) k = (state.own_track o)
+  track_on-in_range (VerticalSpeed c) k = (state.own_track o)
+  track_on-in_range (Altitude c) k = (state.own_track o)
 
   own_speed : IsFrom (pos 0) (top_of settings own) own.gs
-  own_speed = record { least = o.gs.0; most = max_left own.gs (greatest_of kind.Speed settings) }
+  own_speed = record { least = o.gs.0; most = max_left own.gs (greatest_of kind.GroundSpeed settings) }
 
   ground_speed_on-top : (candidate : Candidate) (k : ℕ) → IsCandidateOf settings candidate → IsFrom (pos 0) (top_of settings own) (ground_speed_on own (rates_of settings) candidate k)
   unfolding ground_speed_on
   ground_speed_on-top Hold k h = own_speed
   ground_speed_on-top (Track c) k h = own_speed
-  ground_speed_on-top (Speed g) k h = toward_of-between (pos 0) (top_of settings own) own.gs g (pos k *ℤ settings.numbers.gs.rate)
+  ground_speed_on-top (GroundSpeed g) k h = toward_of-between (pos 0) (top_of settings own) own.gs g (pos k *ℤ settings.numbers.gs.rate)
       (product_nonneg k settings.numbers.gs.rate (omega (arith, ints, settled.rates.gs.least))) own_speed
-      (record { least = le_trans_ℤ _ _ _ (least_in kind.Speed settings settled).least h.least; most = le_trans_ℤ _ _ _ h.most (max_right own.gs (greatest_of kind.Speed settings)) })
-  ground_speed_on-top (Climb c) k h = own_speed
-  ground_speed_on-top (Height c) k h = own_speed
+      (record { least = le_trans_ℤ _ _ _ (least_in kind.GroundSpeed settings settled).least h.least; most = le_trans_ℤ _ _ _ h.most (max_right own.gs (greatest_of kind.GroundSpeed settings)) })
+  ground_speed_on-top (VerticalSpeed c) k h = own_speed
+  ground_speed_on-top (Altitude c) k h = own_speed
 
   -- what is at most m in size, and m at most r
   sized : (x r : ℤ) → pos (unsigned_abs x) ≤ℤ r → IsFrom (neg_ℤ r) r x
   sized x r h = record { least = omega (arith, ints); most = omega (arith, ints) }
 
   vs_size : pos (unsigned_abs own.vs) ≤ℤ rise_of settings own
-  vs_size = le_trans_ℤ _ _ _ (max_left _ (pos (unsigned_abs (least_of kind.Climb settings)))) (max_left _ (int_max (pos (unsigned_abs (greatest_of kind.Climb settings))) settings.numbers.alt.rate))
+  vs_size = le_trans_ℤ _ _ _ (max_left _ (pos (unsigned_abs (least_of kind.VerticalSpeed settings)))) (max_left _ (int_max (pos (unsigned_abs (greatest_of kind.VerticalSpeed settings))) settings.numbers.alt.rate))
 
-  low_size : pos (unsigned_abs (least_of kind.Climb settings)) ≤ℤ rise_of settings own
-  low_size = le_trans_ℤ _ _ _ (max_right (pos (unsigned_abs own.vs)) _) (max_left _ (int_max (pos (unsigned_abs (greatest_of kind.Climb settings))) settings.numbers.alt.rate))
+  low_size : pos (unsigned_abs (least_of kind.VerticalSpeed settings)) ≤ℤ rise_of settings own
+  low_size = le_trans_ℤ _ _ _ (max_right (pos (unsigned_abs own.vs)) _) (max_left _ (int_max (pos (unsigned_abs (greatest_of kind.VerticalSpeed settings))) settings.numbers.alt.rate))
 
-  high_size : pos (unsigned_abs (greatest_of kind.Climb settings)) ≤ℤ rise_of settings own
-  high_size = le_trans_ℤ _ _ _ (max_left _ settings.numbers.alt.rate) (max_right (int_max (pos (unsigned_abs own.vs)) (pos (unsigned_abs (least_of kind.Climb settings)))) _)
+  high_size : pos (unsigned_abs (greatest_of kind.VerticalSpeed settings)) ≤ℤ rise_of settings own
+  high_size = le_trans_ℤ _ _ _ (max_left _ settings.numbers.alt.rate) (max_right (int_max (pos (unsigned_abs own.vs)) (pos (unsigned_abs (least_of kind.VerticalSpeed settings)))) _)
 
   alt_size : settings.numbers.alt.rate ≤ℤ rise_of settings own
-  alt_size = le_trans_ℤ _ _ _ (max_right (pos (unsigned_abs (greatest_of kind.Climb settings))) _)
-      (max_right (int_max (pos (unsigned_abs own.vs)) (pos (unsigned_abs (least_of kind.Climb settings)))) _)
+  alt_size = le_trans_ℤ _ _ _ (max_right (pos (unsigned_abs (greatest_of kind.VerticalSpeed settings))) _)
+      (max_right (int_max (pos (unsigned_abs own.vs)) (pos (unsigned_abs (least_of kind.VerticalSpeed settings)))) _)
 
   vertical_speed_on-top : (candidate : Candidate) (k : ℕ) → IsCandidateOf settings candidate
       → IsFrom (neg_ℤ (rise_of settings own)) (rise_of settings own) (vertical_speed_on own (rates_of settings) candidate k)
   unfolding vertical_speed_on
   vertical_speed_on-top Hold k h = sized own.vs _ vs_size
   vertical_speed_on-top (Track c) k h = sized own.vs _ vs_size
-  vertical_speed_on-top (Speed g) k h = sized own.vs _ vs_size
-  vertical_speed_on-top (Climb w) k h = toward_of-between _ _ own.vs w (pos k *ℤ settings.numbers.vs.rate)
+  vertical_speed_on-top (GroundSpeed g) k h = sized own.vs _ vs_size
+  vertical_speed_on-top (VerticalSpeed w) k h = toward_of-between _ _ own.vs w (pos k *ℤ settings.numbers.vs.rate)
       (product_nonneg k settings.numbers.vs.rate (omega (arith, ints, settled.rates.vs.least))) (sized own.vs _ vs_size)
       (between _ _ _ _ low_size high_size h)
     where
       between : (low high r z : ℤ) → pos (unsigned_abs low) ≤ℤ r → pos (unsigned_abs high) ≤ℤ r → IsFrom low high z → IsFrom (neg_ℤ r) r z
       between low high r z h k l = record { least = omega (arith, ints, l.least); most = omega (arith, ints, l.most) }
-  vertical_speed_on-top (Height a) k h = wider _ _ _ alt_size (height_step own (rates_of settings) a k (omega (arith, ints, settled.rates.alt.least)))
+  vertical_speed_on-top (Altitude a) k h = wider _ _ _ alt_size (height_step own (rates_of settings) a k (omega (arith, ints, settled.rates.alt.least)))
     where
       wider : (s r z : ℤ) → s ≤ℤ r → IsFrom (neg_ℤ s) s z → IsFrom (neg_ℤ r) r z
       wider s r z h l = record { least = omega (arith, ints, l.least); most = omega (arith, ints, l.most) }

@@ -8,7 +8,7 @@ use Rattle.std.proofs.lemmas.Option.{same_Some, slice_get_within}
 use Rattle.daa_config.specs.declared.candidate.Candidate.{Candidate}
 use Rattle.daa_config.specs.declared.candidate.Candidate.TheVariants.{Hold}
 use Rattle.daa_config.specs.declared.kind.Kind.{Kind}
-use Rattle.daa_config.specs.declared.kind.Kind.TheVariants.{Track, Speed, Climb, Height}
+use Rattle.daa_config.specs.declared.kind.Kind.TheVariants.{Track, GroundSpeed, VerticalSpeed, Altitude}
 use Rattle.daa_config.specs.Candidates.{candidate_to, candidates_of, start_of, values_of}
 use Rattle.daa_config.specs.Settings.{Settings, IsAccepted, rates_of}
 use Rattle.daa_state.specs.declared.word.Own.{Own}
@@ -25,28 +25,28 @@ next_length i branches branch = length-set branches i branch
 -- a value to which a candidate goes is of one kind
 one_kind : (first second : Kind) (y z : ℤ) → candidate_to first y ≡ candidate_to second z → first ≡ second
 one_kind Track Track y z e = refl
-one_kind Track Speed y z e = absurd (cc e)
-one_kind Track Climb y z e = absurd (cc e)
-one_kind Track Height y z e = absurd (cc e)
-one_kind Speed Track y z e = absurd (cc e)
-one_kind Speed Speed y z e = refl
-one_kind Speed Climb y z e = absurd (cc e)
-one_kind Speed Height y z e = absurd (cc e)
-one_kind Climb Track y z e = absurd (cc e)
-one_kind Climb Speed y z e = absurd (cc e)
-one_kind Climb Climb y z e = refl
-one_kind Climb Height y z e = absurd (cc e)
-one_kind Height Track y z e = absurd (cc e)
-one_kind Height Speed y z e = absurd (cc e)
-one_kind Height Climb y z e = absurd (cc e)
-one_kind Height Height y z e = refl
+one_kind Track GroundSpeed y z e = absurd (cc e)
+one_kind Track VerticalSpeed y z e = absurd (cc e)
+one_kind Track Altitude y z e = absurd (cc e)
+one_kind GroundSpeed Track y z e = absurd (cc e)
+one_kind GroundSpeed GroundSpeed y z e = refl
+one_kind GroundSpeed VerticalSpeed y z e = absurd (cc e)
+one_kind GroundSpeed Altitude y z e = absurd (cc e)
+one_kind VerticalSpeed Track y z e = absurd (cc e)
+one_kind VerticalSpeed GroundSpeed y z e = absurd (cc e)
+one_kind VerticalSpeed VerticalSpeed y z e = refl
+one_kind VerticalSpeed Altitude y z e = absurd (cc e)
+one_kind Altitude Track y z e = absurd (cc e)
+one_kind Altitude GroundSpeed y z e = absurd (cc e)
+one_kind Altitude VerticalSpeed y z e = absurd (cc e)
+one_kind Altitude Altitude y z e = refl
 
 -- the present flight is of no kind
 no_kind : (kind : Kind) (z : ℤ) → Hold ≡ candidate_to kind z → ⊥
 no_kind Track z e = cc e
-no_kind Speed z e = cc e
-no_kind Climb z e = cc e
-no_kind Height z e = cc e
+no_kind GroundSpeed z e = cc e
+no_kind VerticalSpeed z e = cc e
+no_kind Altitude z e = cc e
 
 module _ (settings : Settings) (own : Own) (needs : Needs) where
   -- none yet: the first of the list is the present flight

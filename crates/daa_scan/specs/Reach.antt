@@ -3,7 +3,7 @@ use Rattle.std.specs.Prelude.{ℕ, ℤ, pos, ◌+◌, ◌+ℤ◌, ◌*ℤ◌, �
 use Rattle.std.specs.Int.{int_max}
 use Rattle.daa_fixed.specs.declared.Solid.{Solid}
 use Rattle.daa_fixed.specs.Leg.{minus}
-use Rattle.daa_config.specs.declared.kind.Kind.TheVariants.{Speed, Climb}
+use Rattle.daa_config.specs.declared.kind.Kind.TheVariants.{GroundSpeed, VerticalSpeed}
 use Rattle.daa_config.specs.declared.level.Level.{Level}
 use Rattle.daa_config.specs.Candidates.{least_of, greatest_of}
 use Rattle.daa_config.specs.Settings.{Settings, IsLevelAt}
@@ -26,13 +26,13 @@ module _ (settings : Settings) (own : Own) (aircraft : Traffic) where
   -- no relative speed east or north is greater: the greater of the present ground speed and the greatest that a candidate asks
   -- for, 1 by which rounded sines may lengthen a velocity (though no axis of it), and the aircraft's speeds
   abbrev pub horizontal_speed : ℤ
-  horizontal_speed = int_max own.gs (greatest_of Speed settings) +ℤ pos 1 +ℤ size_of aircraft.vx +ℤ size_of aircraft.vy
+  horizontal_speed = int_max own.gs (greatest_of GroundSpeed settings) +ℤ pos 1 +ℤ size_of aircraft.vx +ℤ size_of aircraft.vy
 
   -- no relative vertical speed is greater: the greatest of the present one, those that candidates ask for and the rate at which a
   -- candidate goes to an altitude, and the aircraft's
   abbrev pub vertical_speed : ℤ
   vertical_speed =
-      int_max (int_max (size_of own.vs) (size_of (least_of Climb settings))) (int_max (size_of (greatest_of Climb settings)) settings.numbers.alt.rate)
+      int_max (int_max (size_of own.vs) (size_of (least_of VerticalSpeed settings))) (int_max (size_of (greatest_of VerticalSpeed settings)) settings.numbers.alt.rate)
       +ℤ size_of aircraft.vs
 
 -- what is at this place now, and nears at no more than these speeds, can enter the level's volume within its lookahead: on each axis

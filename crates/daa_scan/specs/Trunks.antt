@@ -1,7 +1,7 @@
 -- The flights that lead on the two sides of each kind, and the branches of the candidates, kept where they are needed.
 use Rattle.std.specs.Prelude.{◌≡◌, ◌≤◌, ℕ, ℤ, Bool, IsTrue, true, false, List, [], Some, length, slice_get, slice_index_or}
 use Rattle.daa_config.specs.declared.kind.Kind.{Kind}
-use Rattle.daa_config.specs.declared.kind.Kind.TheVariants.{Track, Speed, Climb, Height}
+use Rattle.daa_config.specs.declared.kind.Kind.TheVariants.{Track, GroundSpeed, VerticalSpeed, Altitude}
 use Rattle.daa_config.specs.declared.level.Level.{Level}
 use Rattle.daa_config.specs.declared.candidate.Candidate.{Candidate}
 use Rattle.daa_config.specs.Candidates.{candidate_to, candidates_of}
@@ -22,20 +22,20 @@ use Rattle.daa_scan.specs.declared.needs.Needs.{Needs}
 -- whether the flights of a kind are needed
 abbrev pub is_needed : Needs → Kind → Bool
 is_needed needs Track = needs.turns
-is_needed needs Speed = needs.turns
-is_needed needs Climb = needs.climbs
-is_needed needs Height = needs.climbs
+is_needed needs GroundSpeed = needs.turns
+is_needed needs VerticalSpeed = needs.climbs
+is_needed needs Altitude = needs.climbs
 
 -- where the legs of a side of a kind are kept
 abbrev pub trunk_index : Kind → (upper : Bool) → ℕ
 trunk_index Track true = 0
 trunk_index Track false = 1
-trunk_index Speed true = 2
-trunk_index Speed false = 3
-trunk_index Climb true = 4
-trunk_index Climb false = 5
-trunk_index Height true = 6
-trunk_index Height false = 7
+trunk_index GroundSpeed true = 2
+trunk_index GroundSpeed false = 3
+trunk_index VerticalSpeed true = 4
+trunk_index VerticalSpeed false = 5
+trunk_index Altitude true = 6
+trunk_index Altitude false = 7
 
 -- the legs kept for a side of a kind
 abbrev pub trunk_in : List (List OwnLeg) → Kind → (upper : Bool) → List OwnLeg
@@ -49,7 +49,8 @@ AreLeads settings own needs trunks = (l : ℕ) (level : Level) → IsLevelAt set
 -- each candidate of such a kind has its branch, by the candidate's number
 pub record AreBranchesOf (settings : Settings) (own : Own) (needs : Needs) (branches : List Branch) : Type 0 where
   pub room : length (candidates_of settings) ≤ length branches
-  pub each : (i : ℕ) (candidate : Candidate) (d : Branch) → slice_get (candidates_of settings) i ≡ Some candidate → (kind : Kind) (z : ℤ) → candidate ≡ candidate_to kind z → IsTrue (is_needed needs kind)
+  pub each : (i : ℕ) (candidate : Candidate) (d : Branch) → slice_get (candidates_of settings) i ≡ Some candidate → (kind : Kind) (z : ℤ)
+      → candidate ≡ candidate_to kind z → IsTrue (is_needed needs kind)
       → IsBranchOf own (rates_of settings) candidate (slice_index_or branches i d)
 
 -- no candidate of a kind that is not needed meets the aircraft at any level

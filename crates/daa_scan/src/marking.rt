@@ -92,9 +92,9 @@ fn stretches_of(config: &Config) -> Stretches
 {
     Stretches {
         tracks: stretch_of(config, Kind::Track),
-        speeds: stretch_of(config, Kind::Speed),
-        climbs: stretch_of(config, Kind::Climb),
-        heights: stretch_of(config, Kind::Height),
+        speeds: stretch_of(config, Kind::GroundSpeed),
+        climbs: stretch_of(config, Kind::VerticalSpeed),
+        heights: stretch_of(config, Kind::Altitude),
     }
 }
 
@@ -147,9 +147,9 @@ fn mark_level(
     };
     mark_present(&round, &present, first, masks);
     mark_kind(&round, Kind::Track, &mut stretches.tracks, first, masks);
-    mark_kind(&round, Kind::Speed, &mut stretches.speeds, first, masks);
-    mark_kind(&round, Kind::Climb, &mut stretches.climbs, first, masks);
-    mark_kind(&round, Kind::Height, &mut stretches.heights, first, masks);
+    mark_kind(&round, Kind::GroundSpeed, &mut stretches.speeds, first, masks);
+    mark_kind(&round, Kind::VerticalSpeed, &mut stretches.climbs, first, masks);
+    mark_kind(&round, Kind::Altitude, &mut stretches.heights, first, masks);
 }
 
 /// Whether level `l` lies within the one before it.

@@ -39,9 +39,9 @@ impl Needs {
     {
         match kind {
             Kind::Track => self.turns,
-            Kind::Speed => self.turns,
-            Kind::Climb => self.climbs,
-            Kind::Height => self.climbs,
+            Kind::GroundSpeed => self.turns,
+            Kind::VerticalSpeed => self.climbs,
+            Kind::Altitude => self.climbs,
         }
     }
 

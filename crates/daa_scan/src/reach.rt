@@ -48,7 +48,7 @@ fn greatest_horizontal_speed(encounter: &Encounter) -> i64
     ensures size { IsWithin (2 ^ 40) result }
 {
     let aircraft = encounter.aircraft;
-    let greatest = encounter.own.gs.max(encounter.config.greatest(Kind::Speed));
+    let greatest = encounter.own.gs.max(encounter.config.greatest(Kind::GroundSpeed));
     i64::from(greatest) + 1 + size(aircraft.vx) + size(aircraft.vy)
 }
 
@@ -59,8 +59,8 @@ fn greatest_vertical_speed(encounter: &Encounter) -> i64
     ensures size { IsWithin (2 ^ 40) result }
 {
     let config = encounter.config;
-    let first = size(encounter.own.vs).max(size(config.least(Kind::Climb)));
-    let second = size(config.greatest(Kind::Climb)).max(i64::from(config.alt_rate()));
+    let first = size(encounter.own.vs).max(size(config.least(Kind::VerticalSpeed)));
+    let second = size(config.greatest(Kind::VerticalSpeed)).max(i64::from(config.alt_rate()));
     first.max(second) + size(encounter.aircraft.vs)
 }
 

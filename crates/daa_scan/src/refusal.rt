@@ -45,9 +45,9 @@ impl Windows {
     {
         match kind {
             Kind::Track => self.turns,
-            Kind::Speed => self.turns,
-            Kind::Climb => self.climbs,
-            Kind::Height => self.climbs,
+            Kind::GroundSpeed => self.turns,
+            Kind::VerticalSpeed => self.climbs,
+            Kind::Altitude => self.climbs,
         }
     }
 }

@@ -323,5 +323,5 @@ fn groups_of(config: &Config) -> u32
     ensures value { result ≡ group_count config.now }
     ensures accepted { IsAccepted config.now }
 {
-    (config.start(Kind::Height) + config.count(Kind::Height)).div_ceil(GROUP)
+    (config.start(Kind::Altitude) + config.count(Kind::Altitude)).div_ceil(GROUP)
 }

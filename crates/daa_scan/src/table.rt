@@ -31,9 +31,9 @@ pub(crate) fn fill_branches(branches: &mut [Branch], own: &Own, config: &Config,
     let present = velocity(own.gs, own.trk);
     // a copy of the loop for each kind, so that no candidate asks which it is
     fill_kind(branches, &own, config, needs, &present, Kind::Track);
-    fill_kind(branches, &own, config, needs, &present, Kind::Speed);
-    fill_kind(branches, &own, config, needs, &present, Kind::Climb);
-    fill_kind(branches, &own, config, needs, &present, Kind::Height);
+    fill_kind(branches, &own, config, needs, &present, Kind::GroundSpeed);
+    fill_kind(branches, &own, config, needs, &present, Kind::VerticalSpeed);
+    fill_kind(branches, &own, config, needs, &present, Kind::Altitude);
 }
 
 /// Keeps those of a kind where it is needed, after those of the kinds before it, where the present
@@ -103,8 +103,8 @@ fn divisor_of(rates: &Rates, kind: Kind) -> Divisor
 {
     match kind {
         Kind::Track => Divisor::of(rates.turn),
-        Kind::Speed => Divisor::of(rates.gs),
-        Kind::Climb => Divisor::of(rates.vs),
-        Kind::Height => Divisor::of(rates.alt),
+        Kind::GroundSpeed => Divisor::of(rates.gs),
+        Kind::VerticalSpeed => Divisor::of(rates.vs),
+        Kind::Altitude => Divisor::of(rates.alt),
     }
 }

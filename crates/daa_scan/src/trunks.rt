@@ -108,9 +108,9 @@ fn trunk_index(kind: Kind, upper: bool) -> u32
 {
     let first = match kind {
         Kind::Track => 0,
-        Kind::Speed => 2,
-        Kind::Climb => 4,
-        Kind::Height => 6,
+        Kind::GroundSpeed => 2,
+        Kind::VerticalSpeed => 4,
+        Kind::Altitude => 6,
     };
     if upper { first } else { first + 1 }
 }
@@ -122,9 +122,9 @@ fn kind_at(index: u32) -> Kind
 {
     match index / 2 {
         0 => Kind::Track,
-        1 => Kind::Speed,
-        2 => Kind::Climb,
-        _ => Kind::Height,
+        1 => Kind::GroundSpeed,
+        2 => Kind::VerticalSpeed,
+        _ => Kind::Altitude,
     }
 }
 
@@ -137,9 +137,9 @@ pub(crate) fn lead_to(own: &Own, kind: Kind, upper: bool) -> Candidate
 {
     match kind {
         Kind::Track => Candidate::Track((own.trk + if upper { 180 } else { 181 }).rem_euclid(360)),
-        Kind::Speed => Candidate::Speed(if upper { 10000 } else { 0 }),
-        Kind::Climb => Candidate::Climb(if upper { 10000 } else { -10000 }),
-        Kind::Height => Candidate::Height(if upper { 60000 } else { -2000 }),
+        Kind::GroundSpeed => Candidate::GroundSpeed(if upper { 10000 } else { 0 }),
+        Kind::VerticalSpeed => Candidate::VerticalSpeed(if upper { 10000 } else { -10000 }),
+        Kind::Altitude => Candidate::Altitude(if upper { 60000 } else { -2000 }),
     }
 }
 

@@ -8,20 +8,20 @@ use Rattle.daa_config.specs.declared.keys.Difference.TheVariants.{UnknownKey, Mi
 use Rattle.daa_config.specs.declared.numbers.Grid.{Grid}
 use Rattle.daa_config.specs.declared.numbers.LevelNumbers.{LevelNumbers}
 use Rattle.daa_config.specs.declared.numbers.RecoveryNumbers.{RecoveryNumbers}
-use Rattle.daa_config.specs.declared.rows.Place.{Place}
-use Rattle.daa_config.specs.declared.rows.Place.TheVariants.{Number, Table, Tables}
+use Rattle.daa_config.specs.declared.rows.Entry.{Entry}
+use Rattle.daa_config.specs.declared.rows.Entry.TheVariants.{Number, Table, Tables}
 use Rattle.daa_config.specs.declared.rows.Row.{Row as CodeRow}
 use Rattle.daa_config.specs.Rows.{Row, are_tables, level_rows, recovery_rows, has_other_key, lacks_key, holds_other}
 use Rattle.daa_config.specs.Document.{number_in, grid_by, level_by}
 
 -- what may stand at a place
-abbrev pub holds_by : Place → Data → Bool
+abbrev pub holds_by : Entry → Data → Bool
 holds_by (Number least greatest here) = λ d. is_some (as_integer d)
 holds_by Table = λ d. is_some (as_table d)
 holds_by Tables = are_tables
 
 -- the number at a place is in its range
-abbrev pub fits_by : Place → Bool
+abbrev pub fits_by : Entry → Bool
 fits_by (Number least greatest here) = int_le least here && int_le here greatest
 fits_by Table = true
 fits_by Tables = true

@@ -5,7 +5,7 @@ use Rattle.daa_config.specs.Settings.{Settings}
 use Rattle.daa_config.specs.declared.candidate.Resolution.{Resolution}
 use Rattle.daa_config.specs.declared.candidate.Resolution.TheVariants.{Keep, Nothing}
 use Rattle.daa_config.specs.declared.kind.Kind.{Kind}
-use Rattle.daa_config.specs.declared.kind.Kind.TheVariants.{Track, Speed, Climb, Height}
+use Rattle.daa_config.specs.declared.kind.Kind.TheVariants.{Track, GroundSpeed, VerticalSpeed, Altitude}
 use Rattle.daa_state.specs.declared.word.Own.{Own}
 use Rattle.daa_state.specs.declared.word.Traffic.{Traffic}
 use Rattle.daa_legs.specs.Alerts.{IsNowLevel}
@@ -33,9 +33,9 @@ pub record AreAircraftAlerts (settings : Settings) (own : Own) (traffic : List T
 -- what is found of a kind
 abbrev pub finding_of : Findings → Kind → Finding
 finding_of findings Track = findings.track
-finding_of findings Speed = findings.speed
-finding_of findings Climb = findings.climb
-finding_of findings Height = findings.height
+finding_of findings GroundSpeed = findings.speed
+finding_of findings VerticalSpeed = findings.climb
+finding_of findings Altitude = findings.height
 
 -- the present flight may be kept
 abbrev pub is_keep : Resolution → Bool

@@ -13,8 +13,8 @@ use Rattle.daa_engine.specs.MomentText.{of_each}
 use Rattle.daa_engine.specs.declared.alerts.AircraftAlert.{AircraftAlert}
 use Rattle.daa_engine.specs.declared.findings.Finding.{Finding}
 use Rattle.daa_engine.specs.declared.findings.Findings.{Findings}
-use Rattle.daa_engine.specs.declared.say.Part.{Part}
-use Rattle.daa_engine.specs.declared.say.Part.TheVariants.{Bands, Resolutions, LastTimes, Recoveries}
+use Rattle.daa_engine.specs.declared.say.Section.{Section}
+use Rattle.daa_engine.specs.declared.say.Section.TheVariants.{Bands, Resolutions, LastTimes, Recoveries}
 use Rattle.daa_engine.specs.Inside.Findings.{finding_of}
 
 -- the two lines of an aircraft
@@ -44,14 +44,14 @@ recovery_text kind None = []
 recovery_text kind (Some found) = recover_line kind found
 
 -- the lines of a part of the report for a kind
-abbrev pub kind_text : Settings → List ℕ → Part → Kind → Finding → Text
+abbrev pub kind_text : Settings → List ℕ → Section → Kind → Finding → Text
 kind_text settings board Bands kind finding = bands_text settings board kind
 kind_text settings board Resolutions kind finding = resolve_line kind finding.lower finding.upper
 kind_text settings board LastTimes kind finding = last_text kind finding.last
 kind_text settings board Recoveries kind finding = recovery_text kind finding.recovery
 
 -- and for all kinds
-unfoldable pub kinds_text : Settings → List ℕ → Part → Findings → Text
+unfoldable pub kinds_text : Settings → List ℕ → Section → Findings → Text
 kinds_text settings board part findings = of_each (λ kind. kind_text settings board part kind (finding_of findings kind))
 
 -- the text of a moment, line by line

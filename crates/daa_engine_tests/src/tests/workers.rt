@@ -3,7 +3,7 @@
 use crate::tests::{NORTH, engine_of_workers, picture_in};
 use daa_config::examples::{ONE_LEVEL, THREE_LEVELS};
 use daa_engine::{Engine, Tickets};
-use daa_outside::{Gate, Meeting};
+use daa_io::{Gate, Meeting};
 use std::process::Abort;
 use std::sync::atomic::AtomicU64;
 use std::sync::atomic::Ordering::SeqCst;

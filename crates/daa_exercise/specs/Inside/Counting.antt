@@ -3,7 +3,7 @@ use Rattle.std.specs.Prelude.{◌≡◌, ◌+◌, ◌*◌, ◌≤◌, ℕ, zero,
 use Rattle.std.specs.List.{AllZip, range_with_len, sum_by}
 use Rattle.daa_config.specs.Settings.{Settings}
 use Rattle.daa_config.specs.declared.kind.Kind.{Kind}
-use Rattle.daa_config.specs.declared.kind.Kind.TheVariants.{Track, Speed, Climb, Height}
+use Rattle.daa_config.specs.declared.kind.Kind.TheVariants.{Track, GroundSpeed, VerticalSpeed, Altitude}
 use Rattle.daa_state.specs.Picture.{aircraft_of}
 use Rattle.daa_state.specs.declared.word.Picture.{Picture}
 use Rattle.daa_legs.specs.Alerts.{IsAlertLevel}
@@ -89,9 +89,9 @@ pub record CountsPicture (settings : Settings) (picture : Picture) (old new : Co
   pub aircraft : new.aircraft ≡ old.aircraft + length (aircraft_of picture)
   pub alerts : Adds (HasAlerts settings picture) old.alerts new.alerts
   pub track : Adds (HasShown settings picture Track) old.track new.track
-  pub speed : Adds (HasShown settings picture Speed) old.speed new.speed
-  pub climb : Adds (HasShown settings picture Climb) old.climb new.climb
-  pub height : Adds (HasShown settings picture Height) old.height new.height
+  pub speed : Adds (HasShown settings picture GroundSpeed) old.speed new.speed
+  pub climb : Adds (HasShown settings picture VerticalSpeed) old.climb new.climb
+  pub height : Adds (HasShown settings picture Altitude) old.height new.height
 
 -- what the first of two counted is counted, and what the second counted
 pub record AddsUp (first second both : Counts) : Type 0 where
@@ -117,18 +117,18 @@ pub record AreCounted (settings : Settings) (output : Outputs) (time count : ℕ
   pub few : counts.aircraft ≤ 64 * count
   pub alerts : HasCounted (HasAlerts settings) output time count counts.alerts
   pub track : HasCounted (λ picture. HasShown settings picture Track) output time count counts.track
-  pub speed : HasCounted (λ picture. HasShown settings picture Speed) output time count counts.speed
-  pub climb : HasCounted (λ picture. HasShown settings picture Climb) output time count counts.climb
-  pub height : HasCounted (λ picture. HasShown settings picture Height) output time count counts.height
+  pub speed : HasCounted (λ picture. HasShown settings picture GroundSpeed) output time count counts.speed
+  pub climb : HasCounted (λ picture. HasShown settings picture VerticalSpeed) output time count counts.climb
+  pub height : HasCounted (λ picture. HasShown settings picture Altitude) output time count counts.height
 
 -- ---- what is written of it
 
 -- the counts of a kind, by band level
 abbrev pub tally_of : Counts → Kind → List ℕ
 tally_of counts Track = counts.track
-tally_of counts Speed = counts.speed
-tally_of counts Climb = counts.climb
-tally_of counts Height = counts.height
+tally_of counts GroundSpeed = counts.speed
+tally_of counts VerticalSpeed = counts.climb
+tally_of counts Altitude = counts.height
 
 -- the lines of a summary: the seed and the number of moments; how many aircraft there were; how often each level was an
 -- aircraft's alert level; and how often it was the shown level of a candidate of each kind

@@ -4,7 +4,7 @@ ghost use Rattle.std.specs.Prelude.{◌≤◌};
 
 use daa_ahead::examples::HoldingSource;
 use daa_ahead::{Calls, Ended, Next, Taker, ahead, in_turn};
-use daa_outside::{Failed, Gate, Meeting, MemSource, Source};
+use daa_io::{Failed, Gate, Meeting, MemSource, Source};
 use std::alloc::{AllocError, Global};
 use std::sync::atomic::{AtomicU64, Ordering};
 use std::test::Fail;

@@ -2,20 +2,20 @@
 use Rattle.std.specs.Prelude.{◌≡◌, ◌≤◌, ◌+◌, ◌-◌, ◌++◌, All, Bool, List, length}
 use Rattle.std.specs.List.{list_any}
 use Rattle.std.specs.Io.KnownBytes.{Appends}
-use Rattle.daa_bands.specs.Parts.{SplitsByEach}
+use Rattle.daa_bands.specs.Chunks.{SplitsByEach}
 use Rattle.daa_config.specs.Settings.{Settings}
 use Rattle.daa_lines.specs.LinesOf.{Bytes}
 use Rattle.daa_report.specs.Lines.{Text}
 use Rattle.daa_ahead.specs.Bytes.{ToldBytes}
 use Rattle.daa_replay.specs.declared.lines.Event.{Event}
 use Rattle.daa_replay.specs.declared.batch.Lane.{Lane}
-use Rattle.daa_replay.specs.declared.batch.Part.{Part}
-use Rattle.daa_replay.specs.declared.place.Place.{Place}
+use Rattle.daa_replay.specs.declared.batch.Chunk.{Chunk}
+use Rattle.daa_replay.specs.declared.checkpoint.Checkpoint.{Checkpoint}
 use Rattle.daa_replay.specs.Lines.{is_refusal}
 use Rattle.daa_replay.specs.Moment.{IsEventText}
 use Rattle.daa_replay.specs.Inside.Events.{HasLines}
 use Rattle.daa_replay.specs.Inside.Moment.{BeginsText}
-use Rattle.daa_replay.specs.Inside.Place.{Gives, IsPlace, Reading, reading_at}
+use Rattle.daa_replay.specs.Inside.Checkpoint.{Gives, IsCheckpoint, Reading, reading_at}
 
 -- the sink took a text of which P holds after what it had taken before
 pub record AppendsSome (P : Text → Type 0) (old new : ToldBytes) : Type 0 where
@@ -57,12 +57,12 @@ module _ (settings : Settings) where
       (text : Text) × Tells piece from upto refused text × (new ≡ old ++ text)
 
   -- the text is that of the events up to a place, from which it can be read on
-  pub record HasTexts (piece : Bytes) (from upto : Place) (refused : Bool) (text : Text) : Type 0 where
+  pub record HasTexts (piece : Bytes) (from upto : Checkpoint) (refused : Bool) (text : Text) : Type 0 where
     pub tells : Tells piece (reading_at from) (reading_at upto) refused text
-    pub there : IsPlace piece upto
+    pub there : IsCheckpoint piece upto
 
   -- the part of the sheet is the texts of its events
-  pub record IsPart (piece : Bytes) (sheet : Text) (part : Part) : Type 0 where
+  pub record IsChunk (piece : Bytes) (sheet : Text) (part : Chunk) : Type 0 where
     pub before : Text
     pub text : Text
     pub after : Text
@@ -73,7 +73,7 @@ module _ (settings : Settings) where
 
   -- each part of the lane's sheet is the texts of its events
   abbrev pub IsFilled : Bytes → Lane → Type 0
-  IsFilled piece lane = All (IsPart piece lane.sheet.text) lane.parts.items
+  IsFilled piece lane = All (IsChunk piece lane.sheet.text) lane.parts.items
 
   -- the sink took the texts of the events from one reading of a piece to a later one
   abbrev pub Shares : Bytes → (from upto : Reading) → (refused : Bool) → (old new : ToldBytes) → Type 0

@@ -1,7 +1,7 @@
 -- How far the report of states was compared with what a source hands out.
 use Rattle.std.specs.Prelude.{ℕ, ◌≤◌, ◌-◌, ◌++◌, true, List, [], Result, Ok, Err, ◌≡◌, ◌≢◌, IfErr, length, take}
 use Rattle.daa_ahead.specs.Bytes.{StreamState}
-use Rattle.daa_bands.specs.Parts.{SplitsByEach}
+use Rattle.daa_bands.specs.Chunks.{SplitsByEach}
 use Rattle.daa_config.specs.Settings.{Settings}
 use Rattle.daa_judge.specs.Matching.{IsMatched, Compares}
 use Rattle.daa_judge.specs.declared.found.Found.{Found}
@@ -14,7 +14,7 @@ use Rattle.daa_replay.specs.declared.lines.Event.{Event}
 use Rattle.daa_replay.specs.Lines.{events_of}
 use Rattle.daa_replay.specs.Moment.{IsEventText}
 use Rattle.daa_replay.specs.Inside.Events.{HasLines, IsAt, IsGiven}
-use Rattle.daa_replay.specs.Inside.Place.{Gives, Reading}
+use Rattle.daa_replay.specs.Inside.Checkpoint.{Gives, Reading}
 
 -- what was found, where going on means that all matched
 abbrev pub found_in : Result (Unit {0}) Found → Found

@@ -2,9 +2,9 @@
 use Rattle.std.specs.Prelude.{ℕ, ◌≡◌, ◌<◌, ◌≤◌, length, List, Option, None, Some, Result, Ok, Err, IfSome, IsSomeAnd}
 use Rattle.std.specs.Option.{option_map_or}
 use Rattle.daa_engine.specs.EngineState.{EngineState}
-use Rattle.daa_outside.specs.Shelf.{Texts, longest_text}
-use Rattle.daa_outside.specs.declared.shelf.FetchFault as fetch_fault
-use Rattle.daa_outside.specs.declared.shelf.FetchFault.TheVariants as fetch
+use Rattle.daa_io.specs.Shelf.{Texts, longest_text}
+use Rattle.daa_io.specs.declared.shelf.FetchFault as fetch_fault
+use Rattle.daa_io.specs.declared.shelf.FetchFault.TheVariants as fetch
 use Rattle.daa_config.specs.declared.fault.ConfigFault.{ConfigFault}
 use Rattle.daa_config.specs.ConfigOf.{config_of}
 use Rattle.daa_config.specs.Fault.{code_of}

@@ -4,7 +4,7 @@ use Rattle.std.specs.Io.KnownBytes.{Appends}
 use Rattle.daa_replay.specs.declared.status.Status.{Status}
 use Rattle.daa_replay.specs.declared.status.Status.TheVariants.{Accepted, Refused, NotTaken, BadConfiguration, SourceFault, SinkFault, NoMemory, ShelfFault, Limit, StatesLong}
 use Rattle.daa_config.specs.Fault as config
-use Rattle.daa_outside.specs.Faults.{HasRisen}
+use Rattle.daa_io.specs.Faults.{HasRisen}
 use Rattle.daa_report.specs.Lines.{Text, numbers_line}
 use Rattle.daa_report.specs.Says.{AppendsFront}
 use Rattle.daa_replay.specs.declared.opening.Unready.{Unready}

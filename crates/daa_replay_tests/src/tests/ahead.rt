@@ -5,7 +5,7 @@ use super::{
     source_of, status_of, whole_sink,
 };
 use daa_ahead::examples::HoldingSource;
-use daa_outside::{Failed, Gate, Meeting, MemSink, Open, Sink};
+use daa_io::{Failed, Gate, Meeting, MemSink, Open, Sink};
 use std::alloc::AllocError;
 use std::process::Abort;
 use std::test::Fail;

@@ -4,7 +4,7 @@ use super::{
     COVERED, ONE_LEVEL, Outside, PLAIN, expect_meeting, gives, gives_front, replay_by, replayed_at,
     shelf_with,
 };
-use daa_outside::Gate;
+use daa_io::Gate;
 use std::alloc::AllocError;
 use std::array;
 use std::process::Abort;

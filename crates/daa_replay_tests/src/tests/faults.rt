@@ -5,7 +5,7 @@ use super::{
     shelf_with, status_of,
 };
 use daa_config::examples::ONE_LEVEL;
-use daa_outside::{MemSource, Open, Void};
+use daa_io::{MemSource, Open, Void};
 use std::process::Abort;
 use std::test::Fail;
 use std::thread::Threads;

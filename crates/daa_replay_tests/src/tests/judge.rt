@@ -4,7 +4,7 @@ use super::{
     ALL, NEVER, ONE, ONE_TEXT, ONES, Outside, PLAIN, Row, behaving, expect, status_over, strings,
     with_room_for,
 };
-use daa_outside::MemShelf;
+use daa_io::MemShelf;
 use std::alloc::AllocError;
 use std::process::Abort;
 use std::test::Fail;

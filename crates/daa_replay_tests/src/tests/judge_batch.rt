@@ -3,7 +3,7 @@
 use super::batch::{Tally, moments_of, report_of};
 use super::judge::{JUDGE, judges, shelf_of_both};
 use super::{ALL, NEVER, Outside, expect, expect_meeting, status_at};
-use daa_outside::MemShelf;
+use daa_io::MemShelf;
 use std::process::Abort;
 use std::test::Fail;
 use std::thread::Threads;

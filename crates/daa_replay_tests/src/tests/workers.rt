@@ -1,7 +1,7 @@
 //! Several workers: whether they really work side by side.
 
 use super::{expect, replay_by, replayed_at};
-use daa_outside::{Gate, Meeting, Open};
+use daa_io::{Gate, Meeting, Open};
 use std::process::Abort;
 use std::sync::atomic::AtomicU64;
 use std::sync::atomic::Ordering::SeqCst;

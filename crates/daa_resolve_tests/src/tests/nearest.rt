@@ -110,9 +110,9 @@ fn nearest_speeds(rt: HostRuntime) -> Result<(), Fail> {
     let config = read(rt.alloc(), QUARTERS.as_bytes())?;
     let board = board_with_open(&config, &[1, 2, 3, 4, 5, 6, 8, 9, 10]);
     let wanted = (Resolution::To(3300), Resolution::To(3900));
-    expect_answers(&rt, &board, &config, &own(0, 3600), Kind::Speed, wanted);
+    expect_answers(&rt, &board, &config, &own(0, 3600), Kind::GroundSpeed, wanted);
     let wanted = (Resolution::Nothing, Resolution::To(3000));
-    expect_answers(&rt, &board, &config, &own(0, 2999), Kind::Speed, wanted);
+    expect_answers(&rt, &board, &config, &own(0, 2999), Kind::GroundSpeed, wanted);
     Ok(())
 }
 
@@ -125,9 +125,9 @@ fn present_value(rt: HostRuntime) -> Result<(), Fail> {
     let none = Resolution::Nothing;
     for (kind, value) in [
         (Kind::Track, 0),
-        (Kind::Speed, 3600),
-        (Kind::Climb, 0),
-        (Kind::Height, 1000),
+        (Kind::GroundSpeed, 3600),
+        (Kind::VerticalSpeed, 0),
+        (Kind::Altitude, 1000),
     ] {
         expect_answers(
             &rt,
@@ -159,7 +159,7 @@ fn hold_open_or_nothing_open(rt: HostRuntime) -> Result<(), Fail> {
     let kept = board_with_open(&config, &[0]);
     let lost = board_with_open(&config, &[]);
     let (keep, none) = (Resolution::Keep, Resolution::Nothing);
-    for kind in [Kind::Track, Kind::Speed, Kind::Climb, Kind::Height] {
+    for kind in [Kind::Track, Kind::GroundSpeed, Kind::VerticalSpeed, Kind::Altitude] {
         expect_answers(&rt, &kept, &config, &own(0, 3600), kind, (keep, keep));
         expect_answers(&rt, &lost, &config, &own(0, 3600), kind, (none, none));
     }

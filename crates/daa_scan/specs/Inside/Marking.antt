@@ -2,7 +2,7 @@
 use Rattle.std.specs.Prelude.{◌≡◌, ℕ, ◌+◌, ◌-◌, ◌<◌, ◌≤◌, ℤ, Bool, true, false, List, length, slice_get, slice_index, Some}
 use Rattle.daa_config.specs.declared.candidate.Candidate.{Candidate}
 use Rattle.daa_config.specs.declared.kind.Kind.{Kind}
-use Rattle.daa_config.specs.declared.kind.Kind.TheVariants.{Track, Speed, Climb, Height}
+use Rattle.daa_config.specs.declared.kind.Kind.TheVariants.{Track, GroundSpeed, VerticalSpeed, Altitude}
 use Rattle.daa_config.specs.declared.level.Level.{Level}
 use Rattle.daa_config.specs.Candidates.{candidate_to, candidates_of, start_of, values_of}
 use Rattle.daa_scan.specs.Adding.{AddsLevels}
@@ -42,9 +42,9 @@ module _ (settings : Settings) (own : Own) (aircraft : Traffic) where
 
   pub record AreStretchesAt (l : ℕ) (stretches : Stretches) : Type 0 where
     pub tracks : IsStretchAt Track l stretches.tracks
-    pub speeds : IsStretchAt Speed l stretches.speeds
-    pub climbs : IsStretchAt Climb l stretches.climbs
-    pub heights : IsStretchAt Height l stretches.heights
+    pub speeds : IsStretchAt GroundSpeed l stretches.speeds
+    pub climbs : IsStretchAt VerticalSpeed l stretches.climbs
+    pub heights : IsStretchAt Altitude l stretches.heights
 
   -- the candidate at an index of the whole list meets the aircraft at the level
   abbrev pub MeetsListed : (index l : ℕ) → Type 0

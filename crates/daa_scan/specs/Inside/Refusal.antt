@@ -5,7 +5,7 @@ use Rattle.daa_fixed.specs.declared.Leg.{Leg}
 use Rattle.daa_taumod.specs.Volume.{ViolatesVertically}
 use Rattle.daa_taumod.specs.declared.Volume.{Volume}
 use Rattle.daa_config.specs.declared.kind.Kind.{Kind}
-use Rattle.daa_config.specs.declared.kind.Kind.TheVariants.{Track, Speed, Climb, Height}
+use Rattle.daa_config.specs.declared.kind.Kind.TheVariants.{Track, GroundSpeed, VerticalSpeed, Altitude}
 use Rattle.daa_config.specs.declared.level.Level.{Level}
 use Rattle.daa_config.specs.Candidates.{candidate_to}
 use Rattle.daa_config.specs.Settings.{Settings}
@@ -18,9 +18,9 @@ use Rattle.daa_scan.specs.declared.refusal.Windows.{Windows}
 -- the seconds of a kind
 abbrev pub window_of : Windows → Kind → Seconds
 window_of windows Track = windows.turns
-window_of windows Speed = windows.turns
-window_of windows Climb = windows.climbs
-window_of windows Height = windows.climbs
+window_of windows GroundSpeed = windows.turns
+window_of windows VerticalSpeed = windows.climbs
+window_of windows Altitude = windows.climbs
 
 -- second k is one of them
 pub record IsSecondOf (seconds : Seconds) (k : ℕ) : Type 0 where

@@ -80,14 +80,14 @@ fn half_a_turn_goes_right(rt: HostRuntime) -> Result<(), Fail> {
 #[test]
 fn speeds_move_by_their_rates(rt: HostRuntime) -> Result<(), Fail> {
     let config = read(rt.alloc(), ONE_LEVEL.as_bytes())?;
-    assert!(rt; flies(&config, Candidate::Speed(3625), 0, (0, 3600, 0)));
-    assert!(rt; flies(&config, Candidate::Speed(3625), 2, (0, 3620, 0)));
-    assert!(rt; flies(&config, Candidate::Speed(3625), 3, (0, 3625, 0)));
-    assert!(rt; flies(&config, Candidate::Speed(3585), 1, (0, 3590, 0)));
-    assert!(rt; flies(&config, Candidate::Speed(3585), 2, (0, 3585, 0)));
-    assert!(rt; flies(&config, Candidate::Climb(-150), 0, (0, 3600, 0)));
-    assert!(rt; flies(&config, Candidate::Climb(-150), 1, (0, 3600, -100)));
-    assert!(rt; flies(&config, Candidate::Climb(-150), 2, (0, 3600, -150)));
+    assert!(rt; flies(&config, Candidate::GroundSpeed(3625), 0, (0, 3600, 0)));
+    assert!(rt; flies(&config, Candidate::GroundSpeed(3625), 2, (0, 3620, 0)));
+    assert!(rt; flies(&config, Candidate::GroundSpeed(3625), 3, (0, 3625, 0)));
+    assert!(rt; flies(&config, Candidate::GroundSpeed(3585), 1, (0, 3590, 0)));
+    assert!(rt; flies(&config, Candidate::GroundSpeed(3585), 2, (0, 3585, 0)));
+    assert!(rt; flies(&config, Candidate::VerticalSpeed(-150), 0, (0, 3600, 0)));
+    assert!(rt; flies(&config, Candidate::VerticalSpeed(-150), 1, (0, 3600, -100)));
+    assert!(rt; flies(&config, Candidate::VerticalSpeed(-150), 2, (0, 3600, -150)));
     Ok(())
 }
 
@@ -96,14 +96,14 @@ fn speeds_move_by_their_rates(rt: HostRuntime) -> Result<(), Fail> {
 #[test]
 fn climbs_to_an_altitude_and_stays(rt: HostRuntime) -> Result<(), Fail> {
     let config = read(rt.alloc(), ONE_LEVEL.as_bytes())?;
-    assert!(rt; flies(&config, Candidate::Height(1040), 0, (0, 3600, 1000)));
-    assert!(rt; flies(&config, Candidate::Height(1040), 1, (0, 3600, 1000)));
-    assert!(rt; flies(&config, Candidate::Height(1040), 2, (0, 3600, 400)));
-    assert!(rt; flies(&config, Candidate::Height(1040), 3, (0, 3600, 0)));
-    assert!(rt; leg_at(&config, &OWN, Candidate::Height(1040), 3).place.up == 62400);
+    assert!(rt; flies(&config, Candidate::Altitude(1040), 0, (0, 3600, 1000)));
+    assert!(rt; flies(&config, Candidate::Altitude(1040), 1, (0, 3600, 1000)));
+    assert!(rt; flies(&config, Candidate::Altitude(1040), 2, (0, 3600, 400)));
+    assert!(rt; flies(&config, Candidate::Altitude(1040), 3, (0, 3600, 0)));
+    assert!(rt; leg_at(&config, &OWN, Candidate::Altitude(1040), 3).place.up == 62400);
     let climbing = Own { vs: 3000, ..OWN };
     assert!(rt;
-        leg_at(&config, &climbing, Candidate::Height(1000), 0)
+        leg_at(&config, &climbing, Candidate::Altitude(1000), 0)
             .velocity
             .up
             == 0
@@ -148,10 +148,10 @@ static TURN_OF_TWENTY: [u32; 21] = [
 fn runs_of_180_seconds(rt: HostRuntime) -> Result<(), Fail> {
     let config = read(rt.alloc(), ONE_LEVEL.as_bytes())?;
     assert!(rt; has_runs(&config, &OWN, Candidate::Hold, &[180]));
-    assert!(rt; has_runs(&config, &OWN, Candidate::Height(1040), &[2, 1, 177]));
+    assert!(rt; has_runs(&config, &OWN, Candidate::Altitude(1040), &[2, 1, 177]));
     assert!(rt; has_runs(&config, &OWN, Candidate::Track(60), &TURN_OF_TWENTY));
-    assert!(rt; has_runs(&config, &OWN, Candidate::Climb(0), &[180]));
-    assert!(rt; has_runs(&config, &OWN, Candidate::Speed(3620), &[1, 1, 178]));
+    assert!(rt; has_runs(&config, &OWN, Candidate::VerticalSpeed(0), &[180]));
+    assert!(rt; has_runs(&config, &OWN, Candidate::GroundSpeed(3620), &[1, 1, 178]));
     Ok(())
 }
 
@@ -159,7 +159,7 @@ fn runs_of_180_seconds(rt: HostRuntime) -> Result<(), Fail> {
 #[test]
 fn runs_follow_one_another(rt: HostRuntime) -> Result<(), Fail> {
     let config = read(rt.alloc(), ONE_LEVEL.as_bytes())?;
-    let mut flight = Flight::begin(&OWN, &config, Candidate::Height(1040));
+    let mut flight = Flight::begin(&OWN, &config, Candidate::Altitude(1040));
     let one = flight.next_run(1);
     let two = flight.next_run(100);
     let _ = flight.next_leg();
@@ -227,7 +227,7 @@ fn a_run_is_one_leg(rt: HostRuntime) -> Result<(), Fail> {
         vs: 0,
         age: 60,
     };
-    let mut flight = Flight::begin(&OWN, &config, Candidate::Height(1040));
+    let mut flight = Flight::begin(&OWN, &config, Candidate::Altitude(1040));
     let first = relative_run(&flight.next_run(2), &aircraft, 0);
     let second = relative_run(&flight.next_run(10), &aircraft, 2);
     let third = relative_run(&flight.next_run(168), &aircraft, 3);
@@ -241,8 +241,8 @@ fn a_run_is_one_leg(rt: HostRuntime) -> Result<(), Fail> {
 #[test]
 fn a_way_of_whole_seconds_has_no_leg_of_its_own(rt: HostRuntime) -> Result<(), Fail> {
     let config = read(rt.alloc(), ONE_LEVEL.as_bytes())?;
-    let short = branch_of(&OWN, &config.rates(), Candidate::Height(1040));
-    let whole = branch_of(&OWN, &config.rates(), Candidate::Height(1050));
+    let short = branch_of(&OWN, &config.rates(), Candidate::Altitude(1040));
+    let whole = branch_of(&OWN, &config.rates(), Candidate::Altitude(1050));
     assert!(rt; short.leaves == 2);
     assert!(rt; short.settles == 3);
     assert!(rt; short.rise == 400);

@@ -13,9 +13,9 @@ use std::test::Fail;
 fn counts_of(config: &Config) -> [u32; 5] {
     [
         config.count(Kind::Track),
-        config.count(Kind::Speed),
-        config.count(Kind::Climb),
-        config.count(Kind::Height),
+        config.count(Kind::GroundSpeed),
+        config.count(Kind::VerticalSpeed),
+        config.count(Kind::Altitude),
         config.total(),
     ]
 }
@@ -41,12 +41,12 @@ static CANDIDATES: [(u32, Candidate); 10] = [
     (1, Candidate::Track(0)),
     (2, Candidate::Track(5)),
     (72, Candidate::Track(355)),
-    (73, Candidate::Speed(500)),
-    (138, Candidate::Speed(7000)),
-    (139, Candidate::Climb(-5000)),
-    (239, Candidate::Climb(5000)),
-    (240, Candidate::Height(0)),
-    (340, Candidate::Height(50000)),
+    (73, Candidate::GroundSpeed(500)),
+    (138, Candidate::GroundSpeed(7000)),
+    (139, Candidate::VerticalSpeed(-5000)),
+    (239, Candidate::VerticalSpeed(5000)),
+    (240, Candidate::Altitude(0)),
+    (340, Candidate::Altitude(50000)),
 ];
 
 /// Whether the list has this candidate here.
@@ -66,9 +66,9 @@ fn candidates(rt: HostRuntime) -> Result<(), Fail> {
 /// Where each kind starts in the list, its least and its greatest value.
 static KINDS: [(Kind, u32, i32, i32); 4] = [
     (Kind::Track, 1, 0, 355),
-    (Kind::Speed, 73, 500, 7000),
-    (Kind::Climb, 139, -5000, 5000),
-    (Kind::Height, 240, 0, 50000),
+    (Kind::GroundSpeed, 73, 500, 7000),
+    (Kind::VerticalSpeed, 139, -5000, 5000),
+    (Kind::Altitude, 240, 0, 50000),
 ];
 
 /// Whether the kind has this least and this greatest value.
@@ -88,8 +88,8 @@ fn values_of_kinds(rt: HostRuntime) -> Result<(), Fail> {
         assert!(rt; config.start(*kind) == *start, "from {start}");
         assert!(rt; has_ends(&config, *kind, *least, *greatest), "from {start}");
     }
-    assert!(rt; has_value(&config, Kind::Speed, 1, 600));
-    assert!(rt; has_value(&config, Kind::Speed, 65, 7000));
+    assert!(rt; has_value(&config, Kind::GroundSpeed, 1, 600));
+    assert!(rt; has_value(&config, Kind::GroundSpeed, 65, 7000));
     Ok(())
 }
 
@@ -104,8 +104,8 @@ fn edited(alloc: Global, old: &str, new: &str) -> Result<Config, Fail> {
 fn uneven_steps(rt: HostRuntime) -> Result<(), Fail> {
     let steps = "min = 1000, max = 1999, step = 250,";
     let config = edited(rt.alloc(), "min = 1000, max = 1000, step = 1,", steps)?;
-    assert!(rt; config.count(Kind::Height) == 4);
-    assert!(rt; has_ends(&config, Kind::Height, 1000, 1750));
+    assert!(rt; config.count(Kind::Altitude) == 4);
+    assert!(rt; has_ends(&config, Kind::Altitude, 1000, 1750));
     assert!(rt; has_ends(&config, Kind::Track, 0, 270));
     Ok(())
 }

@@ -1,7 +1,7 @@
 use Rattle.std.proofs.Common.{◌≡◌, ◌≤◌, ◌-◌, length}
 use Rattle.std.specs.List.{All}
 use Rattle.daa_exercise.specs.Inside.Counting.{AreCounted}
-use Rattle.daa_exercise.specs.Inside.Parts.{HasParts}
+use Rattle.daa_exercise.specs.Inside.Stints.{HasStints}
 use Rattle.daa_exercise.specs.Outputs.{outputs_of}
 use Rattle.daa_exercise.proofs.beside.gather.Given as goal
 
@@ -10,7 +10,7 @@ abbrev pub invariant-loop-left : goal.invariant-loop-left
 invariant-loop-left g l = record {
   within : l.left ≤ l.moments;
   counted : AreCounted l.config (outputs_of l.seed) l.left (l.moments - l.left) l.counts;
-  parts : All (HasParts l.config l.seed) l.clerks;
+  parts : All (HasStints l.config l.seed) l.clerks;
   same_size : length l.clerks ≡ length l.fn.clerks;
 }
 

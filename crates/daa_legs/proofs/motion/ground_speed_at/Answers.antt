@@ -10,10 +10,10 @@ use Rattle.daa_legs.proofs.motion.ground_speed_at.Goals as goal
 known : (c : goal.After-speed_after) → c.speed_after.result ≡ ground_speed_on c.args.own.now c.args.rates.now c.args.candidate c.args.k
 known c =
     let f1 : FitsSigned w32 c.args.own.now.gs = search rules in
-    let f2 : FitsSigned w32 c.in-Speed.g = search rules in
+    let f2 : FitsSigned w32 c.in-GroundSpeed.g = search rules in
     let f3 : FitsSigned w32 c.args.rates.now.gs = search rules in
     (simp to_z-of_z at c.speed_after.ensures)
-    ∙ speed-case c.args.own.now c.args.rates.now c.args.candidate c.in-Speed.g c.args.k c.in-Speed.is
+    ∙ speed-case c.args.own.now c.args.rates.now c.args.candidate c.in-GroundSpeed.g c.args.k c.in-GroundSpeed.is
 
 range : (c : goal.After-speed_after) → IsFrom (pos 0) (pos 10000) c.speed_after.result
 range c = subst (λ (z : ℤ). IsFrom (pos 0) (pos 10000) z) (sym (known c))
@@ -25,15 +25,15 @@ overflow_cast-result c =
     let w : IsWithin 10000 c.speed_after.result = from_within 10000 tt tt (range c) in
     simp to_z-of_z (fits w32 w (lit< tt))
 
-pub returns-in-Speed-clause-value : goal.returns-in-Speed-clause-value
-returns-in-Speed-clause-value c =
+pub returns-in-GroundSpeed-clause-value : goal.returns-in-GroundSpeed-clause-value
+returns-in-GroundSpeed-clause-value c =
     let f : FitsSigned w64 c.speed_after.result = search rules in
     let w : IsWithin 10000 c.speed_after.result = from_within 10000 tt tt (range c) in
     let g : FitsSigned w32 c.speed_after.result = fits w32 w (lit< tt) in
     simp to_z-of_z (known c)
 
-pub returns-in-Speed-clause-in_range : goal.returns-in-Speed-clause-in_range
-returns-in-Speed-clause-in_range c =
+pub returns-in-GroundSpeed-clause-in_range : goal.returns-in-GroundSpeed-clause-in_range
+returns-in-GroundSpeed-clause-in_range c =
     let f : FitsSigned w64 c.speed_after.result = search rules in
     let w : IsWithin 10000 c.speed_after.result = from_within 10000 tt tt (range c) in
     let g : FitsSigned w32 c.speed_after.result = fits w32 w (lit< tt) in
@@ -42,4 +42,4 @@ returns-in-Speed-clause-in_range c =
 pub returns-in_default : goal.returns-in_default
 returns-in_default c =
     let f : FitsSigned w32 c.args.own.now.gs = search rules in
-    simp to_z-of_z (record { value = speed-other c.args.own.now c.args.rates.now c.args.candidate c.args.k c.in_default.not-Speed; in_range = own_speed c.requires.own })
+    simp to_z-of_z (record { value = speed-other c.args.own.now c.args.rates.now c.args.candidate c.args.k c.in_default.not-GroundSpeed; in_range = own_speed c.requires.own })

@@ -19,24 +19,25 @@ returns-in-Track c =
     let e : c.velocity_along.result ≡ record { flat = velocity_of c.args.own.now.gs c.in-Track.c; up = c.args.own.now.vs } = simp to_z-of_z at c.velocity_along.ensures in
     e ∙ ap (velocity_there c.args.own.now) (sym c.in-Track.is)
 
-pub returns-in-Speed : goal.returns-in-Speed
+pub returns-in-GroundSpeed : goal.returns-in-GroundSpeed
 unfolding velocity_there
-returns-in-Speed c =
-    let f1 : FitsSigned w32 c.in-Speed.g = search rules in
+returns-in-GroundSpeed c =
+    let f1 : FitsSigned w32 c.in-GroundSpeed.g = search rules in
     let f2 : FitsSigned w32 c.args.own.now.trk = search rules in
     let f3 : FitsSigned w32 c.args.own.now.vs = search rules in
-    let e : c.velocity_along-in-Speed.result ≡ record { flat = velocity_of c.in-Speed.g c.args.own.now.trk; up = c.args.own.now.vs } = simp to_z-of_z at c.velocity_along-in-Speed.ensures in
-    e ∙ ap (velocity_there c.args.own.now) (sym c.in-Speed.is)
+    let e : c.velocity_along-in-GroundSpeed.result ≡ record { flat = velocity_of c.in-GroundSpeed.g c.args.own.now.trk; up = c.args.own.now.vs } =
+    simp to_z-of_z at c.velocity_along-in-GroundSpeed.ensures in
+    e ∙ ap (velocity_there c.args.own.now) (sym c.in-GroundSpeed.is)
 
-pub returns-in-Climb : goal.returns-in-Climb
+pub returns-in-VerticalSpeed : goal.returns-in-VerticalSpeed
 unfolding velocity_there
-returns-in-Climb c =
-    let f1 : FitsSigned w32 c.in-Climb.w = search rules in
-    let e : c.solid_velocity-in-Climb.result ≡ record { flat = c.args.present.now; up = c.in-Climb.w } = simp to_z-of_z at c.solid_velocity-in-Climb.ensures in
-    e ∙ (λ i. record { flat = c.requires.present i; up = c.in-Climb.w }) ∙ ap (velocity_there c.args.own.now) (sym c.in-Climb.is)
+returns-in-VerticalSpeed c =
+    let f1 : FitsSigned w32 c.in-VerticalSpeed.w = search rules in
+    let e : c.solid_velocity-in-VerticalSpeed.result ≡ record { flat = c.args.present.now; up = c.in-VerticalSpeed.w } = simp to_z-of_z at c.solid_velocity-in-VerticalSpeed.ensures in
+    e ∙ (λ i. record { flat = c.requires.present i; up = c.in-VerticalSpeed.w }) ∙ ap (velocity_there c.args.own.now) (sym c.in-VerticalSpeed.is)
 
-pub returns-in-Height : goal.returns-in-Height
+pub returns-in-Altitude : goal.returns-in-Altitude
 unfolding velocity_there
-returns-in-Height c =
-    let e : c.solid_velocity-in-Height.result ≡ record { flat = c.args.present.now; up = pos 0 } = c.solid_velocity-in-Height.ensures in
-    e ∙ (λ i. record { flat = c.requires.present i; up = pos 0 }) ∙ ap (velocity_there c.args.own.now) (sym c.in-Height.is)
+returns-in-Altitude c =
+    let e : c.solid_velocity-in-Altitude.result ≡ record { flat = c.args.present.now; up = pos 0 } = c.solid_velocity-in-Altitude.ensures in
+    e ∙ (λ i. record { flat = c.requires.present i; up = pos 0 }) ∙ ap (velocity_there c.args.own.now) (sym c.in-Altitude.is)

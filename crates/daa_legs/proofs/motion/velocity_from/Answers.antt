@@ -8,7 +8,7 @@ pub returns-in_default : goal.returns-in_default
 unfolding velocity_on
 returns-in_default c =
     let f : FitsSigned w64 c.vertical_speed_at.result = search rules in
-    let speed = speed-other c.args.own.now c.args.rates.now c.args.candidate c.args.k c.in_default.not-Speed in
+    let speed = speed-other c.args.own.now c.args.rates.now c.args.candidate c.args.k c.in_default.not-GroundSpeed in
     let track = track-other c.args.own.now c.args.rates.now c.args.candidate c.args.k c.in_default.not-Track in
     let flat = c.requires.present ∙ (λ i. velocity_of (speed i) (track i)) in
     simp to_z-of_z (λ i. record { flat = flat i; up = c.vertical_speed_at.ensures.value i })

@@ -7,14 +7,14 @@ use Rattle.daa_fixed.proofs.Bounds.{fits, plus}
 use Rattle.daa_fixed.proofs.Towards.{from_within}
 use Rattle.daa_heading.specs.Heading.{velocity_of}
 use Rattle.daa_config.specs.declared.candidate.Candidate.{Candidate}
-use Rattle.daa_config.specs.declared.candidate.Candidate.TheVariants.{Track, Speed, Climb, Height}
+use Rattle.daa_config.specs.declared.candidate.Candidate.TheVariants.{Track, GroundSpeed, VerticalSpeed, Altitude}
 use Rattle.daa_config.specs.Settings.{IsCandidateInRange}
 use Rattle.daa_legs.specs.Motion.{velocity_on, ground_speed_on, track_on, vertical_speed_on}
 use Rattle.daa_legs.specs.Inside.OnWay.{IsOnWay, step_of}
 use Rattle.daa_legs.proofs.StateRanges.{own_track, own_climb}
 use Rattle.daa_legs.proofs.Ways.{track_there, speed_there, climb_there, height_there, speed_small, near_round, one_is}
 use Rattle.daa_legs.proofs.motion.velocity_on_way.Goals as goal
-use Rattle.daa_legs.proofs.motion.velocity_on_way.Goals.{After-steps, After-steps-in-Speed}
+use Rattle.daa_legs.proofs.motion.velocity_on_way.Goals.{After-steps, After-steps-in-GroundSpeed}
 
 pub returns-in-Hold : goal.returns-in-Hold
 unfolding velocity_on ground_speed_on track_on vertical_speed_on
@@ -60,59 +60,60 @@ returns-in-Track c =
     ∙ ap (λ (x : Candidate). velocity_on c.args.own.now c.args.rates.now x c.args.k) (sym c.in-Track.is)
 
 -- ---- a ground speed
-there : (c : After-steps-in-Speed) → toward_of c.args.own.now.gs c.in-Speed.field-0 (pos c.args.k *ℤ c.args.rates.now.gs) ≡ c.args.own.now.gs +ℤ c.steps-in-Speed.result
+there : (c : After-steps-in-GroundSpeed) → toward_of c.args.own.now.gs c.in-GroundSpeed.field-0 (pos c.args.k *ℤ c.args.rates.now.gs) ≡ c.args.own.now.gs +ℤ c.steps-in-GroundSpeed.result
 there c =
     let f : FitsSigned w32 c.args.rates.now.gs = search rules in
-    let w : IsOnWay c.args.own.now c.args.rates.now (Speed c.in-Speed.field-0) c.args.upper c.args.k = subst (λ (x : Candidate). IsOnWay c.args.own.now c.args.rates.now x
-    c.args.upper c.args.k) c.in-Speed.is c.requires.way in
-    w ∙ sym (ap (λ (z : ℤ). c.args.own.now.gs +ℤ z) (simp to_z-of_z at c.steps-in-Speed.ensures.value))
+    let w : IsOnWay c.args.own.now c.args.rates.now (GroundSpeed c.in-GroundSpeed.field-0) c.args.upper c.args.k = subst (λ (x : Candidate). IsOnWay c.args.own.now c.args.rates.now x
+    c.args.upper c.args.k) c.in-GroundSpeed.is c.requires.way in
+    w ∙ sym (ap (λ (z : ℤ). c.args.own.now.gs +ℤ z) (simp to_z-of_z at c.steps-in-GroundSpeed.ensures.value))
 
-speed : (c : After-steps-in-Speed) → IsFrom (pos 0) (pos 10000) (c.args.own.now.gs +ℤ c.steps-in-Speed.result)
-speed c = speed_small c.args.own.now c.args.rates.now c.in-Speed.field-0 (c.args.own.now.gs +ℤ c.steps-in-Speed.result) c.args.k c.requires.own c.requires.rates (subst (λ (x :
-    Candidate). IsCandidateInRange x) c.in-Speed.is c.requires.candidate) (there c)
+speed : (c : After-steps-in-GroundSpeed) → IsFrom (pos 0) (pos 10000) (c.args.own.now.gs +ℤ c.steps-in-GroundSpeed.result)
+speed c = speed_small c.args.own.now c.args.rates.now c.in-GroundSpeed.field-0 (c.args.own.now.gs +ℤ c.steps-in-GroundSpeed.result) c.args.k c.requires.own c.requires.rates (subst (λ (x :
+    Candidate). IsCandidateInRange x) c.in-GroundSpeed.is c.requires.candidate) (there c)
 
 pub velocity_at_speed-requires-clause-gs : goal.velocity_at_speed-requires-clause-gs
 velocity_at_speed-requires-clause-gs c =
     let f1 : FitsSigned w32 c.args.own.now.gs = search rules in
-    let f2 : FitsSigned w32 c.steps-in-Speed.result = search rules in
-    let f3 : FitsSigned w32 (c.args.own.now.gs +ℤ c.steps-in-Speed.result) = fits w32 (from_within 10000 tt tt (speed c)) (lit< tt) in
+    let f2 : FitsSigned w32 c.steps-in-GroundSpeed.result = search rules in
+    let f3 : FitsSigned w32 (c.args.own.now.gs +ℤ c.steps-in-GroundSpeed.result) = fits w32 (from_within 10000 tt tt (speed c)) (lit< tt) in
     simp to_z-of_z (speed c)
 
-pub returns-in-Speed : goal.returns-in-Speed
-returns-in-Speed c =
+pub returns-in-GroundSpeed : goal.returns-in-GroundSpeed
+returns-in-GroundSpeed c =
     let p = c.before in
     let f1 : FitsSigned w32 c.args.own.now.gs = search rules in
-    let f2 : FitsSigned w32 c.steps-in-Speed.result = search rules in
-    let f3 : FitsSigned w32 (c.args.own.now.gs +ℤ c.steps-in-Speed.result) = fits w32 (from_within 10000 tt tt (speed p)) (lit< tt) in
-    let is : c.velocity_at_speed.result ≡ record { flat = velocity_of (c.args.own.now.gs +ℤ c.steps-in-Speed.result) c.args.own.now.trk; up = c.args.own.now.vs } = simp to_z-of_z
+    let f2 : FitsSigned w32 c.steps-in-GroundSpeed.result = search rules in
+    let f3 : FitsSigned w32 (c.args.own.now.gs +ℤ c.steps-in-GroundSpeed.result) = fits w32 (from_within 10000 tt tt (speed p)) (lit< tt) in
+    let is : c.velocity_at_speed.result ≡ record { flat = velocity_of (c.args.own.now.gs +ℤ c.steps-in-GroundSpeed.result) c.args.own.now.trk; up = c.args.own.now.vs } = simp to_z-of_z
     at c.velocity_at_speed.ensures in
-    speed_there c.args.own.now c.args.rates.now c.in-Speed.field-0 (c.args.own.now.gs +ℤ c.steps-in-Speed.result) c.args.k c.velocity_at_speed.result is (there p)
-    ∙ ap (λ (x : Candidate). velocity_on c.args.own.now c.args.rates.now x c.args.k) (sym c.in-Speed.is)
+    speed_there c.args.own.now c.args.rates.now c.in-GroundSpeed.field-0 (c.args.own.now.gs +ℤ c.steps-in-GroundSpeed.result) c.args.k c.velocity_at_speed.result is (there p)
+    ∙ ap (λ (x : Candidate). velocity_on c.args.own.now c.args.rates.now x c.args.k) (sym c.in-GroundSpeed.is)
 
 -- ---- a vertical speed, and an altitude
-pub returns-in-Climb : goal.returns-in-Climb
-returns-in-Climb c =
+pub returns-in-VerticalSpeed : goal.returns-in-VerticalSpeed
+returns-in-VerticalSpeed c =
     let f1 : FitsSigned w32 c.args.own.now.vs = search rules in
-    let f2 : FitsSigned w32 c.steps-in-Climb.result = search rules in
+    let f2 : FitsSigned w32 c.steps-in-VerticalSpeed.result = search rules in
     let f3 : FitsSigned w32 c.args.rates.now.vs = search rules in
     let vs : IsWithin 10000 c.args.own.now.vs = from_within 10000 tt tt (own_climb c.requires.own) in
-    let f4 : FitsSigned w32 (c.args.own.now.vs +ℤ c.steps-in-Climb.result) = fits w32 (plus vs c.steps-in-Climb.ensures.size) (lit< tt) in
-    let w : IsOnWay c.args.own.now c.args.rates.now (Climb c.in-Climb.field-0) c.args.upper c.args.k = subst (λ (x : Candidate). IsOnWay c.args.own.now c.args.rates.now x
-    c.args.upper c.args.k) c.in-Climb.is c.requires.way in
-    let is : c.solid_velocity-in-Climb.result ≡ record { flat = c.args.present.now; up = c.args.own.now.vs +ℤ c.steps-in-Climb.result } = simp to_z-of_z at c.solid_velocity-in-Climb.ensures in
-    climb_there c.args.own.now c.args.rates.now c.in-Climb.field-0 (c.args.own.now.vs +ℤ c.steps-in-Climb.result) c.args.k c.solid_velocity-in-Climb.result
-    (is ∙ (λ i. record { flat = c.requires.present i; up = c.args.own.now.vs +ℤ c.steps-in-Climb.result }))
-    (w ∙ sym (ap (λ (z : ℤ). c.args.own.now.vs +ℤ z) (simp to_z-of_z at c.steps-in-Climb.ensures.value)))
-    ∙ ap (λ (x : Candidate). velocity_on c.args.own.now c.args.rates.now x c.args.k) (sym c.in-Climb.is)
+    let f4 : FitsSigned w32 (c.args.own.now.vs +ℤ c.steps-in-VerticalSpeed.result) = fits w32 (plus vs c.steps-in-VerticalSpeed.ensures.size) (lit< tt) in
+    let w : IsOnWay c.args.own.now c.args.rates.now (VerticalSpeed c.in-VerticalSpeed.field-0) c.args.upper c.args.k = subst (λ (x : Candidate). IsOnWay c.args.own.now c.args.rates.now x
+    c.args.upper c.args.k) c.in-VerticalSpeed.is c.requires.way in
+    let is : c.solid_velocity-in-VerticalSpeed.result ≡ record { flat = c.args.present.now; up = c.args.own.now.vs +ℤ c.steps-in-VerticalSpeed.result } =
+    simp to_z-of_z at c.solid_velocity-in-VerticalSpeed.ensures in
+    climb_there c.args.own.now c.args.rates.now c.in-VerticalSpeed.field-0 (c.args.own.now.vs +ℤ c.steps-in-VerticalSpeed.result) c.args.k c.solid_velocity-in-VerticalSpeed.result
+    (is ∙ (λ i. record { flat = c.requires.present i; up = c.args.own.now.vs +ℤ c.steps-in-VerticalSpeed.result }))
+    (w ∙ sym (ap (λ (z : ℤ). c.args.own.now.vs +ℤ z) (simp to_z-of_z at c.steps-in-VerticalSpeed.ensures.value)))
+    ∙ ap (λ (x : Candidate). velocity_on c.args.own.now c.args.rates.now x c.args.k) (sym c.in-VerticalSpeed.is)
 
-pub returns-in-Height : goal.returns-in-Height
-returns-in-Height c =
-    let f2 : FitsSigned w32 c.steps-in-Height.result = search rules in
+pub returns-in-Altitude : goal.returns-in-Altitude
+returns-in-Altitude c =
+    let f2 : FitsSigned w32 c.steps-in-Altitude.result = search rules in
     let f3 : FitsSigned w32 c.args.rates.now.alt = search rules in
-    let w : IsOnWay c.args.own.now c.args.rates.now (Height c.in-Height.field-0) c.args.upper c.args.k = subst (λ (x : Candidate). IsOnWay c.args.own.now c.args.rates.now x
-    c.args.upper c.args.k) c.in-Height.is c.requires.way in
-    let is : c.solid_velocity-in-Height.result ≡ record { flat = c.args.present.now; up = c.steps-in-Height.result } = simp to_z-of_z at c.solid_velocity-in-Height.ensures in
-    height_there c.args.own.now c.args.rates.now c.in-Height.field-0 c.steps-in-Height.result c.args.k c.solid_velocity-in-Height.result
-    (is ∙ (λ i. record { flat = c.requires.present i; up = c.steps-in-Height.result }))
-    (w ∙ sym (one_is (step_of c.args.upper c.args.rates.now.alt) c.steps-in-Height.result (simp to_z-of_z at c.steps-in-Height.ensures.value)))
-    ∙ ap (λ (x : Candidate). velocity_on c.args.own.now c.args.rates.now x c.args.k) (sym c.in-Height.is)
+    let w : IsOnWay c.args.own.now c.args.rates.now (Altitude c.in-Altitude.field-0) c.args.upper c.args.k = subst (λ (x : Candidate). IsOnWay c.args.own.now c.args.rates.now x
+    c.args.upper c.args.k) c.in-Altitude.is c.requires.way in
+    let is : c.solid_velocity-in-Altitude.result ≡ record { flat = c.args.present.now; up = c.steps-in-Altitude.result } = simp to_z-of_z at c.solid_velocity-in-Altitude.ensures in
+    height_there c.args.own.now c.args.rates.now c.in-Altitude.field-0 c.steps-in-Altitude.result c.args.k c.solid_velocity-in-Altitude.result
+    (is ∙ (λ i. record { flat = c.requires.present i; up = c.steps-in-Altitude.result }))
+    (w ∙ sym (one_is (step_of c.args.upper c.args.rates.now.alt) c.steps-in-Altitude.result (simp to_z-of_z at c.steps-in-Altitude.ensures.value)))
+    ∙ ap (λ (x : Candidate). velocity_on c.args.own.now c.args.rates.now x c.args.k) (sym c.in-Altitude.is)

@@ -9,28 +9,28 @@ use Rattle.daa_legs.proofs.motion.vertical_speed_at.Goals as goal
 known : (c : goal.After-speed_after) → c.speed_after.result ≡ vertical_speed_on c.args.own.now c.args.rates.now c.args.candidate c.args.k
 known c =
     let f1 : FitsSigned w32 c.args.own.now.vs = search rules in
-    let f2 : FitsSigned w32 c.in-Climb.w = search rules in
+    let f2 : FitsSigned w32 c.in-VerticalSpeed.w = search rules in
     let f3 : FitsSigned w32 c.args.rates.now.vs = search rules in
     (simp to_z-of_z at c.speed_after.ensures)
-    ∙ climb-case c.args.own.now c.args.rates.now c.args.candidate c.in-Climb.w c.args.k c.in-Climb.is
+    ∙ climb-case c.args.own.now c.args.rates.now c.args.candidate c.in-VerticalSpeed.w c.args.k c.in-VerticalSpeed.is
 
-pub returns-in-Climb-clause-value : goal.returns-in-Climb-clause-value
-returns-in-Climb-clause-value c =
+pub returns-in-VerticalSpeed-clause-value : goal.returns-in-VerticalSpeed-clause-value
+returns-in-VerticalSpeed-clause-value c =
     let f : FitsSigned w64 c.speed_after.result = search rules in
     simp to_z-of_z (known c)
 
-pub returns-in-Climb-clause-size : goal.returns-in-Climb-clause-size
-returns-in-Climb-clause-size c =
+pub returns-in-VerticalSpeed-clause-size : goal.returns-in-VerticalSpeed-clause-size
+returns-in-VerticalSpeed-clause-size c =
     let f : FitsSigned w64 c.speed_after.result = search rules in
     simp to_z-of_z (as_within (known c) (vertical_speed_on-within c.args.own.now c.args.rates.now c.requires.own c.requires.rates c.args.candidate c.args.k c.requires.candidate))
 
-pub returns-in-Height-clause-value : goal.returns-in-Height-clause-value
-returns-in-Height-clause-value c =
+pub returns-in-Altitude-clause-value : goal.returns-in-Altitude-clause-value
+returns-in-Altitude-clause-value c =
     let f1 : FitsSigned w32 c.args.own.now.alt = search rules in
-    let f2 : FitsSigned w32 c.in-Height.a = search rules in
+    let f2 : FitsSigned w32 c.in-Altitude.a = search rules in
     let f3 : FitsSigned w32 c.args.rates.now.alt = search rules in
     let f : FitsSigned w64 c.rise.result = search rules in
-    simp to_z-of_z ((simp to_z-of_z at c.rise.ensures.value) ∙ height-case c.args.own.now c.args.rates.now c.args.candidate c.in-Height.a c.args.k c.in-Height.is)
+    simp to_z-of_z ((simp to_z-of_z at c.rise.ensures.value) ∙ height-case c.args.own.now c.args.rates.now c.args.candidate c.in-Altitude.a c.args.k c.in-Altitude.is)
 
 pub returns-in_default : goal.returns-in_default
 returns-in_default c =
@@ -38,6 +38,6 @@ returns-in_default c =
     let g : FitsSigned w64 c.from.result = search rules in
     let e : c.from.result ≡ c.args.own.now.vs = simp to_z-of_z at c.from.ensures in
     simp to_z-of_z (record {
-      value = e ∙ climb-other c.args.own.now c.args.rates.now c.args.candidate c.args.k c.in_default.not-Climb c.in_default.not-Height;
+      value = e ∙ climb-other c.args.own.now c.args.rates.now c.args.candidate c.args.k c.in_default.not-VerticalSpeed c.in_default.not-Altitude;
       size = as_within e (from_within 10000 tt tt (own_climb c.requires.own));
     })

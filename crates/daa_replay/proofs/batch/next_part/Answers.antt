@@ -1,5 +1,5 @@
 use Rattle.std.proofs.Common.{◌≡◌, rules, subst}
-use Rattle.daa_replay.specs.declared.place.Place.{Place}
+use Rattle.daa_replay.specs.declared.checkpoint.Checkpoint.{Checkpoint}
 use Rattle.daa_replay.specs.Inside.Batch.{HasTexts}
 use Rattle.daa_replay.proofs.batch.next_part.Goals as goal
 
@@ -7,4 +7,4 @@ pub returns-in-Some-clause-texts : goal.returns-in-Some-clause-texts
 returns-in-Some-clause-texts c settings piece all =
     let part = c.in-Some.part in
     let same : part.from ≡ c.args.here.now = search rules in
-    subst (λ (p : Place). HasTexts settings piece p part.upto part.refused part.text.now) same (c.in-Some.ensures.texts settings piece all)
+    subst (λ (p : Checkpoint). HasTexts settings piece p part.upto part.refused part.text.now) same (c.in-Some.ensures.texts settings piece all)

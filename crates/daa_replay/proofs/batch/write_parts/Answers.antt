@@ -1,7 +1,7 @@
 use Rattle.std.proofs.Common.{◌∙◌, All, Bool, List, arith, refl, subst, sym}
 use Rattle.daa_replay.specs.declared.batch.Lane.{Lane}
 use Rattle.daa_replay.specs.Inside.Batch.{Fails, HasTexts, IsFilled, Shares}
-use Rattle.daa_replay.specs.Inside.Place.{reading_at}
+use Rattle.daa_replay.specs.Inside.Checkpoint.{reading_at}
 use Rattle.daa_replay.proofs.BatchLemmas.{fails-part, shares-join, shares-none}
 use Rattle.daa_replay.proofs.ReportLemmas.{on_err}
 use Rattle.daa_replay.proofs.batch.write_parts.Goals as goal

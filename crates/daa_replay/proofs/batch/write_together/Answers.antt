@@ -1,13 +1,13 @@
 use Rattle.std.proofs.Common.{◌≡◌, ◌∙◌, ◌-◌, ◌++◌, All, Bool, IfSome, Option, arith, length, refl, subst, sym, take}
 use Rattle.daa_config.specs.Settings.{Settings}
 use Rattle.daa_lines.specs.LinesState.{LinesState}
-use Rattle.daa_replay.specs.declared.place.Place.{Place}
+use Rattle.daa_replay.specs.declared.checkpoint.Checkpoint.{Checkpoint}
 use Rattle.daa_replay.specs.Moment.{IsEventText}
 use Rattle.daa_replay.specs.Inside.Batch.{Fails, IsFilled, Shares}
 use Rattle.daa_replay.specs.Inside.Events.{HasLines}
-use Rattle.daa_replay.specs.Inside.Place.{IsPlace, Reading, lines_at, moments_at, reading, reading_at}
+use Rattle.daa_replay.specs.Inside.Checkpoint.{IsCheckpoint, Reading, lines_at, moments_at, reading, reading_at}
 use Rattle.daa_replay.proofs.BatchLemmas.{fails-after, fails-event, shares-event, shares-join, shares-none, shares-pass}
-use Rattle.daa_replay.proofs.PlaceLemmas.{behind-there, lines-there, same-reading}
+use Rattle.daa_replay.proofs.CheckpointLemmas.{behind-there, lines-there, same-reading}
 use Rattle.daa_replay.proofs.ReportLemmas.{on_err}
 use Rattle.daa_replay.proofs.batch.write_together.Goals as goal
 
@@ -36,7 +36,7 @@ returns-in_err-reach-in-Some-clause-err g c =
     let i = c.loop-done.invariant in
     let start : Reading = reading 0 c.args.lines.now c.args.moments.now in
     let now : Reading = reading c.loop-done.done c.loop-done.lines c.loop-done.moments in
-    let here : now ≡ reading_at c.in-Some.place = subst (λ (h : Option Place). IfSome h (λ place. now ≡ reading_at place)) c.in-Some.is i.here in
+    let here : now ≡ reading_at c.in-Some.place = subst (λ (h : Option Checkpoint). IfSome h (λ place. now ≡ reading_at place)) c.in-Some.is i.here in
     let set = c.config-in-Some.ensures.value ∙ i.same in
     let fails : Fails settings piece (reading_at c.in-Some.place) (g.K.Sink.taken c.loop-done.sink) (g.K.Sink.taken c.write_parts.new.sink) =
     subst (λ (s : Settings). Fails s piece (reading_at c.in-Some.place) (g.K.Sink.taken c.loop-done.sink) (g.K.Sink.taken c.write_parts.new.sink)) set c.in_err-reach-in-Some.ensures.err in
@@ -56,7 +56,7 @@ loop-done-preserved-in-Some g c =
     let ok = c.in_ok-reach-in-Some.ensures in
     let start : Reading = reading 0 c.args.lines.now c.args.moments.now in
     let now : Reading = reading c.loop-done.done c.loop-done.lines c.loop-done.moments in
-    let here : now ≡ reading_at place = subst (λ (h : Option Place). IfSome h (λ place. now ≡ reading_at place)) c.in-Some.is i.here in
+    let here : now ≡ reading_at place = subst (λ (h : Option Checkpoint). IfSome h (λ place. now ≡ reading_at place)) c.in-Some.is i.here in
     let set = c.config-in-Some.ensures.value ∙ i.same in
     record {
       filled = subst (λ (s : Settings). All (IsFilled s piece) c.write_parts.new.batch.lanes.items) set c.write_parts.ensures.filled;
@@ -123,8 +123,8 @@ loop-done-preserved g c =
       same = i.same;
       within = c.next_of_lines.ensures.within;
       lines = c.next_of_lines.ensures.lines;
-      here = subst (λ (h : Option Place). IfSome h (λ place. after ≡ reading_at place)) (sym c.in-None.is) tt;
-      there = subst (λ (h : Option Place). IfSome h (IsPlace piece)) (sym c.in-None.is) tt;
+      here = subst (λ (h : Option Checkpoint). IfSome h (λ place. after ≡ reading_at place)) (sym c.in-None.is) tt;
+      there = subst (λ (h : Option Checkpoint). IfSome h (IsCheckpoint piece)) (sym c.in-None.is) tt;
       shares = shares-pass settings piece (reading 0 c.args.lines.now c.args.moments.now) (reading c.loop-done.done c.loop-done.lines c.loop-done.moments) after c.loop-done.refused _ _ i.shares
           c.in_default.ensures.kept;
       calm = i.calm;

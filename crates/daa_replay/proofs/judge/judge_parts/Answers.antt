@@ -2,9 +2,9 @@ use Rattle.std.proofs.Common.{All, List, arith, subst, sym}
 use Rattle.daa_ahead.specs.Bytes.{stream_state}
 use Rattle.daa_replay.specs.declared.batch.Lane.{Lane}
 use Rattle.daa_replay.specs.Inside.Batch.{HasTexts, IsFilled}
-use Rattle.daa_replay.specs.Inside.Place.{reading_at}
+use Rattle.daa_replay.specs.Inside.Checkpoint.{reading_at}
 use Rattle.daa_replay.proofs.JudgeLemmas.{between-join, between-none, between-part, stops-later}
-use Rattle.daa_replay.proofs.PlaceLemmas.{lines-there}
+use Rattle.daa_replay.proofs.CheckpointLemmas.{lines-there}
 use Rattle.daa_replay.proofs.judge.judge_parts.Goals as goal
 
 pub loop-upto-init : goal.loop-upto-init

@@ -4,14 +4,14 @@ use Rattle.daa_judge.specs.Matching.{HasRoom}
 use Rattle.daa_judge.specs.declared.found.Found.TheVariants as found
 use Rattle.daa_replay.specs.Inside.Batch.{IsFilled}
 use Rattle.daa_replay.specs.Inside.Judge.{ComparesBetween}
-use Rattle.daa_replay.specs.Inside.Place.{IsPlace, reading_at}
+use Rattle.daa_replay.specs.Inside.Checkpoint.{IsCheckpoint, reading_at}
 use Rattle.daa_replay.proofs.judge.judge_parts.Given as goal
 
 -- the texts up to a place matched
 abbrev pub invariant-loop-upto : goal.invariant-loop-upto
 invariant-loop-upto g l = record {
   filled : All (IsFilled l.config l.piece) l.batch.lanes.items;
-  there : IsPlace l.piece l.upto;
+  there : IsCheckpoint l.piece l.upto;
   forward : l.fn.from.done ≤ l.upto.done;
   room : HasRoom l.matching;
   never_falls : g.S.Source.faults l.fn.source ≤ g.S.Source.faults l.source;

@@ -3,13 +3,13 @@ use Rattle.daa_ahead.specs.Bytes.{StreamState, stream_state}
 use Rattle.daa_config.specs.Settings.{Settings}
 use Rattle.daa_judge.specs.declared.found.Found.TheVariants as found
 use Rattle.daa_lines.specs.LinesState.{LinesState}
-use Rattle.daa_replay.specs.declared.place.Place.{Place}
+use Rattle.daa_replay.specs.declared.checkpoint.Checkpoint.{Checkpoint}
 use Rattle.daa_replay.specs.Inside.Batch.{IsFilled}
 use Rattle.daa_replay.specs.Inside.Events.{HasLines}
 use Rattle.daa_replay.specs.Inside.Judge.{ComparesBetween, StopsBetween}
-use Rattle.daa_replay.specs.Inside.Place.{IsPlace, Reading, lines_at, moments_at, reading, reading_at}
+use Rattle.daa_replay.specs.Inside.Checkpoint.{IsCheckpoint, Reading, lines_at, moments_at, reading, reading_at}
 use Rattle.daa_replay.proofs.JudgeLemmas.{between-event, between-join, between-none, between-pass, stops-later}
-use Rattle.daa_replay.proofs.PlaceLemmas.{behind-there, lines-there, same-reading}
+use Rattle.daa_replay.proofs.CheckpointLemmas.{behind-there, lines-there, same-reading}
 use Rattle.daa_replay.proofs.judge.judge_together.Goals as goal
 
 pub loop-done-init : goal.loop-done-init
@@ -44,7 +44,7 @@ loop-done-preserved-in-Ok g c =
     let upto = c.in-Ok.upto in
     let start : Reading = reading 0 c.args.progress.now.lines c.args.progress.now.moments in
     let now : Reading = reading c.loop-done.done c.loop-done.progress.lines c.loop-done.progress.moments in
-    let here : now ≡ reading_at place = subst (λ (h : Option Place). IfSome h (λ place. now ≡ reading_at place)) c.in-Some.is i.here in
+    let here : now ≡ reading_at place = subst (λ (h : Option Checkpoint). IfSome h (λ place. now ≡ reading_at place)) c.in-Some.is i.here in
     let set = c.config-in-Some.ensures.value ∙ i.same in
     let old : StreamState = stream_state (g.S.Source.left c.args.source.now) (g.S.Source.faults c.args.source.now) in
     let mid : StreamState = stream_state (g.S.Source.left c.loop-done.source) (g.S.Source.faults c.loop-done.source) in
@@ -79,7 +79,7 @@ returns-in-Err-clause-err g c =
     let stop = c.in-Err.found in
     let start : Reading = reading 0 c.args.progress.now.lines c.args.progress.now.moments in
     let now : Reading = reading c.loop-done.done c.loop-done.progress.lines c.loop-done.progress.moments in
-    let here : now ≡ reading_at place = subst (λ (h : Option Place). IfSome h (λ place. now ≡ reading_at place)) c.in-Some.is i.here in
+    let here : now ≡ reading_at place = subst (λ (h : Option Checkpoint). IfSome h (λ place. now ≡ reading_at place)) c.in-Some.is i.here in
     let set = c.config-in-Some.ensures.value ∙ i.same in
     let old : StreamState = stream_state (g.S.Source.left c.args.source.now) (g.S.Source.faults c.args.source.now) in
     let mid : StreamState = stream_state (g.S.Source.left c.loop-done.source) (g.S.Source.faults c.loop-done.source) in
@@ -150,8 +150,8 @@ loop-done-preserved g c =
       left = i.left;
       within = c.next_of_lines.ensures.within;
       lines = c.next_of_lines.ensures.lines;
-      here = subst (λ (h : Option Place). IfSome h (λ place. after ≡ reading_at place)) (sym c.in-None.is) tt;
-      there = subst (λ (h : Option Place). IfSome h (IsPlace piece)) (sym c.in-None.is) tt;
+      here = subst (λ (h : Option Checkpoint). IfSome h (λ place. after ≡ reading_at place)) (sym c.in-None.is) tt;
+      there = subst (λ (h : Option Checkpoint). IfSome h (IsCheckpoint piece)) (sym c.in-None.is) tt;
       room = i.room;
       never_falls = i.never_falls;
       matched = between-pass settings piece start now after _ _ _ _ i.matched c.in_default.ensures.kept;

@@ -5,8 +5,8 @@ use Rattle.daa_judge.specs.declared.found.Found.TheVariants as found
 use Rattle.daa_replay.specs.Inside.Batch.{IsFilled}
 use Rattle.daa_replay.specs.Inside.Events.{HasLines}
 use Rattle.daa_replay.specs.Inside.Judge.{ComparesBetween}
-use Rattle.daa_replay.specs.Inside.Place.{IsPlace, reading, reading_at}
-use Rattle.daa_replay.proofs.PlaceLemmas.{steps-at}
+use Rattle.daa_replay.specs.Inside.Checkpoint.{IsCheckpoint, reading, reading_at}
+use Rattle.daa_replay.proofs.CheckpointLemmas.{steps-at}
 use Rattle.daa_replay.proofs.judge.judge_together.Given as goal
 
 -- the texts so far matched; where it stands between two moments, the place is known
@@ -18,7 +18,7 @@ invariant-loop-done g l = record {
   within : l.done ≤ length l.piece;
   lines : HasLines (length l.piece - l.done) l.progress.lines;
   here : IfSome l.here (λ place. reading l.done l.progress.lines l.progress.moments ≡ reading_at place);
-  there : IfSome l.here (IsPlace l.piece);
+  there : IfSome l.here (IsCheckpoint l.piece);
   room : HasRoom l.comparison.matching;
   never_falls : g.S.Source.faults l.fn.source ≤ g.S.Source.faults l.source;
   matched : ComparesBetween l.fn.engine.settings l.piece (reading 0 l.fn.progress.lines l.fn.progress.moments) (reading l.done l.progress.lines l.progress.moments) found.Alike

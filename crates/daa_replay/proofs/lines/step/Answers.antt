@@ -1,7 +1,7 @@
 use Rattle.std.proofs.Common.{◌≡◌, Ok, Some, rules}
 use Rattle.daa_state.specs.MomentStep.{step, stepped}
 use Rattle.daa_state.specs.declared.word.Word.TheVariants.{End}
-use Rattle.daa_replay.proofs.PlaceLemmas.{last-ended}
+use Rattle.daa_replay.proofs.CheckpointLemmas.{last-ended}
 use Rattle.daa_replay.proofs.lines.step.Goals as goal
 
 pub returns-in-Ok-Some-clause-last : goal.returns-in-Ok-Some-clause-last

@@ -1,5 +1,5 @@
 use Rattle.std.proofs.Common.{Err, ap, sym, subst, ◌∙◌}
-use Rattle.daa_outside.specs.declared.shelf.FetchFault.{FetchFault}
+use Rattle.daa_io.specs.declared.shelf.FetchFault.{FetchFault}
 use Rattle.daa_replay.specs.declared.opening.Unready.{Unready}
 use Rattle.daa_replay.specs.Inside.Opening.{FetchesAs, cause_of_fetch}
 use Rattle.daa_replay.proofs.OpeningLemmas.{no_text}

@@ -2,7 +2,7 @@ use Rattle.std.proofs.Common.{append_assoc, [], ◌∷◌, ◌++◌, ◌∙◌, 
 use Rattle.std.proofs.lemmas.List.{take_all}
 use Rattle.daa_config.specs.Settings.{Settings}
 use Rattle.daa_lines.specs.LinesOf.{Bytes}
-use Rattle.daa_outside.specs.Faults.{HasRisen}
+use Rattle.daa_io.specs.Faults.{HasRisen}
 use Rattle.daa_replay.specs.declared.events.Progress.{Progress}
 use Rattle.daa_replay.specs.declared.lines.Event.{Event}
 use Rattle.daa_replay.specs.Moment.{IsEventText}

@@ -1,5 +1,5 @@
 use Rattle.std.proofs.Common.{ℕ, List, ◌+◌, sym, subst, arith, length}
-use Rattle.daa_config.specs.declared.kind.Kind.TheVariants.{Height}
+use Rattle.daa_config.specs.declared.kind.Kind.TheVariants.{Altitude}
 use Rattle.daa_config.specs.Candidates.{start_of, values_of}
 use Rattle.daa_config.proofs.CandidateLemmas.{begins, whole_ends}
 use Rattle.daa_scan.specs.Inside.Marking.{AreMarked}
@@ -28,5 +28,5 @@ returns-clause-masks c before h =
     let tracks = subst (λ (n : ℕ). on n c.mark_kind.new.masks) (sym (begins e.config.now).speed) (c.mark_kind.ensures.masks before present) in
     let speeds = subst (λ (n : ℕ). on n c.mark_kind-2.new.masks) (sym (begins e.config.now).climb) (c.mark_kind-2.ensures.masks before tracks) in
     let climbs = subst (λ (n : ℕ). on n c.mark_kind-3.new.masks) (sym (begins e.config.now).height) (c.mark_kind-3.ensures.masks before speeds) in
-    marked_all e.config.now e.own.now e.aircraft.now c.args.first c.args.l before c.mark_kind-4.new.masks (start_of Height e.config.now + length (values_of Height e.config.now))
+    marked_all e.config.now e.own.now e.aircraft.now c.args.first c.args.l before c.mark_kind-4.new.masks (start_of Altitude e.config.now + length (values_of Altitude e.config.now))
     (omega (arith, w)) (c.mark_kind-4.ensures.masks before climbs)

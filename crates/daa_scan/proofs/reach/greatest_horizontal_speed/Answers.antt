@@ -4,7 +4,7 @@ use Rattle.std.proofs.lemmas.Int.{ints, int_max_is}
 use Rattle.daa_fixed.specs.Size.{IsWithin, IsFrom}
 use Rattle.daa_fixed.proofs.Bounds.{fits, plus, as_within}
 use Rattle.daa_fixed.proofs.LegSizes.{natural}
-use Rattle.daa_config.specs.declared.kind.Kind.TheVariants.{Speed}
+use Rattle.daa_config.specs.declared.kind.Kind.TheVariants.{GroundSpeed}
 use Rattle.daa_config.specs.Candidates.{greatest_of}
 use Rattle.daa_scan.specs.Reach.{size_of}
 use Rattle.daa_scan.proofs.reach.greatest_horizontal_speed.Goals as goal
@@ -28,7 +28,7 @@ record Parts (f x y g vx vy : ℤ) : Type 0 where
   second_size : IsWithin 10000 x
   third_size : IsWithin 10000 y
 
-parts : (c : After-size-2) → Parts c.from.result c.size.result c.size-2.result (int_max c.args.encounter.now.own.now.gs (greatest_of Speed c.args.encounter.now.config.now))
+parts : (c : After-size-2) → Parts c.from.result c.size.result c.size-2.result (int_max c.args.encounter.now.own.now.gs (greatest_of GroundSpeed c.args.encounter.now.config.now))
     c.args.encounter.now.aircraft.now.vx c.args.encounter.now.aircraft.now.vy
 parts c =
     let f1 : FitsSigned w32 c.args.encounter.now.own.now.gs = search rules in
@@ -37,7 +37,7 @@ parts c =
     let f4 : FitsSigned w32 c.args.encounter.now.aircraft.now.vx = search rules in
     let f5 : FitsSigned w32 c.args.encounter.now.aircraft.now.vy = search rules in
     let m : c.max-greatest.result ≡ int_max c.args.encounter.now.own.now.gs c.greatest.result = simp to_z-of_z at c.max-greatest.ensures.value in
-    let e : c.from.result ≡ int_max c.args.encounter.now.own.now.gs (greatest_of Speed c.args.encounter.now.config.now) = (simp to_z-of_z at c.from.ensures) ∙ m ∙ ap
+    let e : c.from.result ≡ int_max c.args.encounter.now.own.now.gs (greatest_of GroundSpeed c.args.encounter.now.config.now) = (simp to_z-of_z at c.from.ensures) ∙ m ∙ ap
     (int_max c.args.encounter.now.own.now.gs) c.greatest.ensures.value in
     let ex : c.size.result ≡ size_of c.args.encounter.now.aircraft.now.vx = simp to_z-of_z at c.size.ensures in
     let ey : c.size-2.result ≡ size_of c.args.encounter.now.aircraft.now.vy = simp to_z-of_z at c.size-2.ensures in

@@ -4,7 +4,7 @@ use Rattle.std.proofs.lemmas.Int.{ints, int_max_is}
 use Rattle.daa_fixed.specs.Size.{IsWithin, IsFrom}
 use Rattle.daa_fixed.proofs.Bounds.{fits, plus, as_within}
 use Rattle.daa_fixed.proofs.LegSizes.{natural}
-use Rattle.daa_config.specs.declared.kind.Kind.TheVariants.{Climb}
+use Rattle.daa_config.specs.declared.kind.Kind.TheVariants.{VerticalSpeed}
 use Rattle.daa_config.specs.Candidates.{least_of, greatest_of}
 use Rattle.daa_scan.specs.Reach.{size_of}
 use Rattle.daa_scan.proofs.reach.greatest_vertical_speed.Goals as goal
@@ -29,8 +29,8 @@ record Parts (m s r w : ℤ) : Type 0 where
   second_size : IsWithin 10000 s
 
 parts : (c : After-size-4) → Parts c.max.result c.size-4.result
-    (int_max (int_max (size_of c.args.encounter.now.own.now.vs) (size_of (least_of Climb c.args.encounter.now.config.now)))
-    (int_max (size_of (greatest_of Climb c.args.encounter.now.config.now)) c.args.encounter.now.config.now.numbers.alt.rate)) (size_of c.args.encounter.now.aircraft.now.vs)
+    (int_max (int_max (size_of c.args.encounter.now.own.now.vs) (size_of (least_of VerticalSpeed c.args.encounter.now.config.now)))
+    (int_max (size_of (greatest_of VerticalSpeed c.args.encounter.now.config.now)) c.args.encounter.now.config.now.numbers.alt.rate)) (size_of c.args.encounter.now.aircraft.now.vs)
 parts c =
     let f1 : FitsSigned w32 c.args.encounter.now.own.now.vs = search rules in
     let f2 : FitsSigned w32 c.least.result = search rules in
@@ -44,8 +44,8 @@ parts c =
     let g5 : FitsSigned w64 c.max-first.result = search rules in
     let g6 : FitsSigned w64 c.max-second.result = search rules in
     let e1 : c.size.result ≡ size_of c.args.encounter.now.own.now.vs = simp to_z-of_z at c.size.ensures in
-    let e2 : c.size-2.result ≡ size_of (least_of Climb c.args.encounter.now.config.now) = (simp to_z-of_z at c.size-2.ensures) ∙ ap size_of c.least.ensures.value in
-    let e3 : c.size-3.result ≡ size_of (greatest_of Climb c.args.encounter.now.config.now) = (simp to_z-of_z at c.size-3.ensures) ∙ ap size_of c.greatest.ensures.value in
+    let e2 : c.size-2.result ≡ size_of (least_of VerticalSpeed c.args.encounter.now.config.now) = (simp to_z-of_z at c.size-2.ensures) ∙ ap size_of c.least.ensures.value in
+    let e3 : c.size-3.result ≡ size_of (greatest_of VerticalSpeed c.args.encounter.now.config.now) = (simp to_z-of_z at c.size-3.ensures) ∙ ap size_of c.greatest.ensures.value in
     let e4 : c.from.result ≡ c.args.encounter.now.config.now.numbers.alt.rate = (simp to_z-of_z at c.from.ensures) ∙ c.alt_rate.ensures.value in
     let m1 = (simp to_z-of_z at c.max-first.ensures.value) ∙ (λ i. int_max (e1 i) (e2 i)) in
     let m2 = (simp to_z-of_z at c.max-second.ensures.value) ∙ (λ i. int_max (e3 i) (e4 i)) in

@@ -1,5 +1,5 @@
 use Rattle.std.proofs.Common.{rules, ℕ, ◌+◌, sym, subst, arith, length, FitsSigned, w32, to_z-of_z}
-use Rattle.daa_config.specs.declared.kind.Kind.TheVariants.{Track, Height}
+use Rattle.daa_config.specs.declared.kind.Kind.TheVariants.{Track, Altitude}
 use Rattle.daa_config.specs.Candidates.{start_of, values_of}
 use Rattle.daa_config.proofs.CandidateLemmas.{begins, whole_ends}
 use Rattle.daa_scan.specs.Inside.Trunks.{AreBranchesBelow}
@@ -50,5 +50,5 @@ fill_kind-requires-4-clause-before c = subst (λ (n : ℕ). AreBranchesBelow c.a
 pub returns-clause-branches : goal.returns-clause-branches
 returns-clause-branches c =
     let w = whole_ends c.args.config.now in
-    all_filled c.args.config.now c.args.own.now c.args.needs.now (start_of Height c.args.config.now + length (values_of Height c.args.config.now))
+    all_filled c.args.config.now c.args.own.now c.args.needs.now (start_of Altitude c.args.config.now + length (values_of Altitude c.args.config.now))
     c.fill_kind-4.new.branches (omega (arith, w)) c.fill_kind-4.ensures.branches

@@ -2,7 +2,7 @@ use Rattle.std.proofs.Common.{◌∙◌, Some, ℤ, rules, sym, ap, w32, FitsSig
 use Rattle.std.proofs.lemmas.Int.{to_z-of_z}
 use Rattle.daa_config.specs.Candidates.{candidate_to}
 use Rattle.daa_config.specs.declared.kind.Kind.{Kind}
-use Rattle.daa_config.specs.declared.candidate.Candidate.TheVariants.{Track, Speed, Climb, Height}
+use Rattle.daa_config.specs.declared.candidate.Candidate.TheVariants.{Track, GroundSpeed, VerticalSpeed, Altitude}
 use Rattle.daa_config.proofs.CandidateLemmas.{candidate_at}
 use Rattle.daa_config.proofs.config.Config.candidate_in.Goals as goal
 
@@ -12,20 +12,20 @@ returns-in-Track-clause-value c =
     candidate_at c.args.kind c.args.self.now c.args.index v c.value-value.ensures.value
     ∙ ap (λ (k : Kind). Some (candidate_to k v)) c.in-Track.is ∙ ap (λ (z : ℤ). Some (Track z)) (sym (to_z-of_z w32 v f))
 
-pub returns-in-Speed-clause-value : goal.returns-in-Speed-clause-value
-returns-in-Speed-clause-value c =
+pub returns-in-GroundSpeed-clause-value : goal.returns-in-GroundSpeed-clause-value
+returns-in-GroundSpeed-clause-value c =
     let v : ℤ = c.value-value.result in let f : FitsSigned w32 v = search rules in
     candidate_at c.args.kind c.args.self.now c.args.index v c.value-value.ensures.value
-    ∙ ap (λ (k : Kind). Some (candidate_to k v)) c.in-Speed.is ∙ ap (λ (z : ℤ). Some (Speed z)) (sym (to_z-of_z w32 v f))
+    ∙ ap (λ (k : Kind). Some (candidate_to k v)) c.in-GroundSpeed.is ∙ ap (λ (z : ℤ). Some (GroundSpeed z)) (sym (to_z-of_z w32 v f))
 
-pub returns-in-Climb-clause-value : goal.returns-in-Climb-clause-value
-returns-in-Climb-clause-value c =
+pub returns-in-VerticalSpeed-clause-value : goal.returns-in-VerticalSpeed-clause-value
+returns-in-VerticalSpeed-clause-value c =
     let v : ℤ = c.value-value.result in let f : FitsSigned w32 v = search rules in
     candidate_at c.args.kind c.args.self.now c.args.index v c.value-value.ensures.value
-    ∙ ap (λ (k : Kind). Some (candidate_to k v)) c.in-Climb.is ∙ ap (λ (z : ℤ). Some (Climb z)) (sym (to_z-of_z w32 v f))
+    ∙ ap (λ (k : Kind). Some (candidate_to k v)) c.in-VerticalSpeed.is ∙ ap (λ (z : ℤ). Some (VerticalSpeed z)) (sym (to_z-of_z w32 v f))
 
-pub returns-in-Height-clause-value : goal.returns-in-Height-clause-value
-returns-in-Height-clause-value c =
+pub returns-in-Altitude-clause-value : goal.returns-in-Altitude-clause-value
+returns-in-Altitude-clause-value c =
     let v : ℤ = c.value-value.result in let f : FitsSigned w32 v = search rules in
     candidate_at c.args.kind c.args.self.now c.args.index v c.value-value.ensures.value
-    ∙ ap (λ (k : Kind). Some (candidate_to k v)) c.in-Height.is ∙ ap (λ (z : ℤ). Some (Height z)) (sym (to_z-of_z w32 v f))
+    ∙ ap (λ (k : Kind). Some (candidate_to k v)) c.in-Altitude.is ∙ ap (λ (z : ℤ). Some (Altitude z)) (sym (to_z-of_z w32 v f))

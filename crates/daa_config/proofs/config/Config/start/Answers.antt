@@ -14,32 +14,32 @@ unfolding start_of
 returns-in-Track-clause-few c =
     omega (arith, kind_few c.args.kind c.args.self.now c.count-tracks.ensures.accepted, ap (λ (k : Kind). start_of k c.args.self.now) c.in-Track.is)
 
-pub returns-in-Speed-clause-within : goal.returns-in-Speed-clause-within
+pub returns-in-GroundSpeed-clause-within : goal.returns-in-GroundSpeed-clause-within
 unfolding start_of
-returns-in-Speed-clause-within c =
-    omega (arith, kind_within c.args.kind c.args.self.now, ap (λ (k : Kind). start_of k c.args.self.now) c.in-Speed.is)
+returns-in-GroundSpeed-clause-within c =
+    omega (arith, kind_within c.args.kind c.args.self.now, ap (λ (k : Kind). start_of k c.args.self.now) c.in-GroundSpeed.is)
 
-pub returns-in-Speed-clause-few : goal.returns-in-Speed-clause-few
+pub returns-in-GroundSpeed-clause-few : goal.returns-in-GroundSpeed-clause-few
 unfolding start_of
-returns-in-Speed-clause-few c =
-    omega (arith, kind_few c.args.kind c.args.self.now c.count-tracks.ensures.accepted, ap (λ (k : Kind). start_of k c.args.self.now) c.in-Speed.is)
+returns-in-GroundSpeed-clause-few c =
+    omega (arith, kind_few c.args.kind c.args.self.now c.count-tracks.ensures.accepted, ap (λ (k : Kind). start_of k c.args.self.now) c.in-GroundSpeed.is)
 
-pub returns-in-Climb-clause-within : goal.returns-in-Climb-clause-within
+pub returns-in-VerticalSpeed-clause-within : goal.returns-in-VerticalSpeed-clause-within
 unfolding start_of
-returns-in-Climb-clause-within c =
-    omega (arith, kind_within c.args.kind c.args.self.now, ap (λ (k : Kind). start_of k c.args.self.now) c.in-Climb.is)
+returns-in-VerticalSpeed-clause-within c =
+    omega (arith, kind_within c.args.kind c.args.self.now, ap (λ (k : Kind). start_of k c.args.self.now) c.in-VerticalSpeed.is)
 
-pub returns-in-Climb-clause-few : goal.returns-in-Climb-clause-few
+pub returns-in-VerticalSpeed-clause-few : goal.returns-in-VerticalSpeed-clause-few
 unfolding start_of
-returns-in-Climb-clause-few c =
-    omega (arith, kind_few c.args.kind c.args.self.now c.count-tracks.ensures.accepted, ap (λ (k : Kind). start_of k c.args.self.now) c.in-Climb.is)
+returns-in-VerticalSpeed-clause-few c =
+    omega (arith, kind_few c.args.kind c.args.self.now c.count-tracks.ensures.accepted, ap (λ (k : Kind). start_of k c.args.self.now) c.in-VerticalSpeed.is)
 
-pub returns-in-Height-clause-within : goal.returns-in-Height-clause-within
+pub returns-in-Altitude-clause-within : goal.returns-in-Altitude-clause-within
 unfolding start_of
-returns-in-Height-clause-within c =
-    omega (arith, kind_within c.args.kind c.args.self.now, ap (λ (k : Kind). start_of k c.args.self.now) c.in-Height.is)
+returns-in-Altitude-clause-within c =
+    omega (arith, kind_within c.args.kind c.args.self.now, ap (λ (k : Kind). start_of k c.args.self.now) c.in-Altitude.is)
 
-pub returns-in-Height-clause-few : goal.returns-in-Height-clause-few
+pub returns-in-Altitude-clause-few : goal.returns-in-Altitude-clause-few
 unfolding start_of
-returns-in-Height-clause-few c =
-    omega (arith, kind_few c.args.kind c.args.self.now c.count-tracks.ensures.accepted, ap (λ (k : Kind). start_of k c.args.self.now) c.in-Height.is)
+returns-in-Altitude-clause-few c =
+    omega (arith, kind_few c.args.kind c.args.self.now c.count-tracks.ensures.accepted, ap (λ (k : Kind). start_of k c.args.self.now) c.in-Altitude.is)

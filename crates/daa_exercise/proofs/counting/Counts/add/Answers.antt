@@ -1,5 +1,5 @@
 use Rattle.std.proofs.Common.{◌+◌, ℕ, ap}
-use Rattle.daa_config.specs.declared.kind.Kind.TheVariants.{Track, Speed, Climb, Height}
+use Rattle.daa_config.specs.declared.kind.Kind.TheVariants.{Track, GroundSpeed, VerticalSpeed, Altitude}
 use Rattle.daa_exercise.proofs.CountLemmas.{add_covered}
 use Rattle.daa_exercise.proofs.counting.Counts.add.Goals as goal
 
@@ -11,7 +11,7 @@ returns c =
       aircraft = ap (λ (n : ℕ). c.args.self.now.aircraft + n) c.len.ensures.value;
       alerts = c.count_alerts.ensures;
       track = covered Track _ _ ok board c.count_shown.ensures;
-      speed = covered Speed _ _ ok board c.count_shown-2.ensures;
-      climb = covered Climb _ _ ok board c.count_shown-3.ensures;
-      height = covered Height _ _ ok board c.count_shown-4.ensures;
+      speed = covered GroundSpeed _ _ ok board c.count_shown-2.ensures;
+      climb = covered VerticalSpeed _ _ ok board c.count_shown-3.ensures;
+      height = covered Altitude _ _ ok board c.count_shown-4.ensures;
     }

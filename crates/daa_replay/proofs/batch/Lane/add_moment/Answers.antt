@@ -1,8 +1,8 @@
 use Rattle.std.proofs.Common.{◌∙◌, false, arith, refl, subst, sym}
 use Rattle.daa_replay.specs.Inside.Batch.{AddsTexts}
-use Rattle.daa_replay.specs.Inside.Place.{Reading, reading, reading_at}
+use Rattle.daa_replay.specs.Inside.Checkpoint.{Reading, reading, reading_at}
 use Rattle.daa_replay.proofs.BatchLemmas.{adds-event, adds-none, adds-pass}
-use Rattle.daa_replay.proofs.PlaceLemmas.{lines-stand}
+use Rattle.daa_replay.proofs.CheckpointLemmas.{lines-stand}
 use Rattle.daa_replay.proofs.batch.Lane.add_moment.Goals as goal
 
 pub loop-done-init : goal.loop-done-init

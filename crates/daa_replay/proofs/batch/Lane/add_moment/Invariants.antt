@@ -1,7 +1,7 @@
 use Rattle.std.proofs.Common.{◌≡◌, ◌≤◌, ◌-◌, length}
 use Rattle.daa_replay.specs.Inside.Batch.{AddsTexts}
 use Rattle.daa_replay.specs.Inside.Events.{HasLines}
-use Rattle.daa_replay.specs.Inside.Place.{reading, reading_at}
+use Rattle.daa_replay.specs.Inside.Checkpoint.{reading, reading_at}
 use Rattle.daa_replay.proofs.batch.Lane.add_moment.Given as goal
 
 -- the texts so far were added

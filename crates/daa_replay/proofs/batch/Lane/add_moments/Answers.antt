@@ -1,9 +1,9 @@
 use Rattle.std.proofs.Common.{◌∙◌, Bool, refl, subst, sym}
 use Rattle.daa_report.specs.Lines.{Text}
 use Rattle.daa_replay.specs.Inside.Batch.{AddsTexts}
-use Rattle.daa_replay.specs.Inside.Place.{reading_at}
+use Rattle.daa_replay.specs.Inside.Checkpoint.{reading_at}
 use Rattle.daa_replay.proofs.BatchLemmas.{adds-join, adds-none}
-use Rattle.daa_replay.proofs.PlaceLemmas.{same-reading}
+use Rattle.daa_replay.proofs.CheckpointLemmas.{same-reading}
 use Rattle.daa_replay.proofs.batch.Lane.add_moments.Goals as goal
 
 pub loop-reach-init : goal.loop-reach-init

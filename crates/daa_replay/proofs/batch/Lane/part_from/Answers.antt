@@ -4,14 +4,14 @@ use Rattle.std.specs.List.Sorted.{IsBinarySearchResult}
 use Rattle.std.specs.Ordering.{nat_cmp}
 use Rattle.std.proofs.lemmas.Cmp.{ranked}
 use Rattle.std.proofs.lemmas.List.Sorted.{answers_always}
-use Rattle.daa_replay.specs.declared.batch.Part.{Part}
+use Rattle.daa_replay.specs.declared.batch.Chunk.{Chunk}
 use Rattle.daa_replay.proofs.batch.Lane.part_from.Goals as goal
 
 -- where a search for a number of bytes ends at a part, the part begins behind so many
-found : (done place : ℕ) (parts : List Part) (r : Result ℕ ℕ) → IsBinarySearchResult (λ (part : Part). nat_cmp part.from.done done) parts r
-    → r ≡ Ok place → (d : Part) → (slice_index_or parts place d).from.done ≡ done
+found : (done place : ℕ) (parts : List Chunk) (r : Result ℕ ℕ) → IsBinarySearchResult (λ (part : Chunk). nat_cmp part.from.done done) parts r
+    → r ≡ Ok place → (d : Chunk) → (slice_index_or parts place d).from.done ≡ done
 found done place parts r searched is d =
-    ranked _ done _ (sym (subst (λ (r : Result ℕ ℕ). IsBinarySearchResult (λ (part : Part). nat_cmp part.from.done done) parts r) is searched d))
+    ranked _ done _ (sym (subst (λ (r : Result ℕ ℕ). IsBinarySearchResult (λ (part : Chunk). nat_cmp part.from.done done) parts r) is searched d))
 
 pub returns-clause-begins : goal.returns-clause-begins
 returns-clause-begins c =

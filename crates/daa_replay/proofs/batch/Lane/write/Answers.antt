@@ -1,7 +1,7 @@
 use Rattle.std.proofs.Common.{All, List, ap, length, subst, sym}
-use Rattle.daa_replay.specs.declared.batch.Part.{Part}
-use Rattle.daa_replay.specs.Inside.Batch.{IsPart}
-use Rattle.daa_replay.specs.Inside.Place.{reading_at}
+use Rattle.daa_replay.specs.declared.batch.Chunk.{Chunk}
+use Rattle.daa_replay.specs.Inside.Batch.{IsChunk}
+use Rattle.daa_replay.specs.Inside.Checkpoint.{reading_at}
 use Rattle.daa_replay.proofs.BatchLemmas.{part-added, parts-stay}
 use Rattle.daa_replay.proofs.batch.Lane.write.Goals as goal
 
@@ -14,6 +14,6 @@ returns g c =
     let new = c.add_moments-reach.new.self.sheet.text in
     let added = c.add_moments-reach.ensures.added in
     c.note.ensures settings piece
-    (subst (λ (l : List Part). All (IsPart settings piece new) l) (sym c.add_moments-reach.ensures.parts)
+    (subst (λ (l : List Chunk). All (IsChunk settings piece new) l) (sym c.add_moments-reach.ensures.parts)
     (parts-stay settings piece (reading_at c.args.from) (reading_at reach.upto) reach.refused old new c.args.self.now.parts.items added c.requires.filled))
     (part-added settings piece old new _ added c.add_moments-reach.ensures.there (ap length c.text-start.ensures.value) (ap length c.text-end.ensures.value))
