@@ -1,4 +1,4 @@
-"""tests/made: what the made pages hold, and that another text is refused."""
+"""tools/made: what the made pages hold, and that another text is refused."""
 import contextlib
 import io
 import os
@@ -9,7 +9,7 @@ from unittest import mock
 
 from common import TOP, module
 
-made = module("tests/made")
+made = module("tools/made")
 
 
 class Made(unittest.TestCase):
@@ -27,7 +27,7 @@ class Made(unittest.TestCase):
 class Main(unittest.TestCase):
     def test_each_page_is_compared(self):
         """Where each is wrong, each is told, and none passes; where none is, all pass."""
-        self.assertEqual(set(made.PAGES), {"docs/DEFINITIONS.md", "docs/WRONG_BODIES.md", "docs/CALLS.md"})
+        self.assertEqual(set(made.PAGES), {"docs/made/DEFINITIONS.md", "docs/made/MUTANTS.md", "docs/made/CALLS.md"})
         paths = [*made.PAGES, *made.readmes()]
         for wrong, status, told in ((lambda path, _: path, 1, [*(f"FAILED: {path}" for path in paths), f"0 passed, {len(paths)} failed"]),
                                     (lambda *_: None, 0, [f"{len(paths)} passed, 0 failed"])):
@@ -38,7 +38,7 @@ class Main(unittest.TestCase):
 
 class Definitions(unittest.TestCase):
     def setUp(self):
-        self.text = made.text_of_page("docs/DEFINITIONS.md")
+        self.text = made.text_of_page("docs/made/DEFINITIONS.md")
 
     def test_each_definition_of_a_public_clause_is_listed_and_no_other(self):
         found = made.trust.Trust()
@@ -52,14 +52,14 @@ class Definitions(unittest.TestCase):
         self.assertEqual(self.text.count("- **`"), len(found.named(found.headline)))
 
     def test_a_block_within_a_block_is_read(self):
-        self.assertIn("\n- **`IsLastTime`**: ", self.text)
+        self.assertIn("\n- **`IsLastTime`**\n", self.text)
         self.assertIn(("daa_last", "Last", "IsLastTime"), made.trust.Specs().all)
 
     def test_a_line_has_the_comment_of_its_definition(self):
-        self.assertIn("\n- **`HasOne`**: exactly one thing meets `Is`\n", self.text)
+        self.assertIn("\n- `IsShort`: each component is below 2^60 in size, so that the products fit\n", self.text)
 
 
-class WrongBodies(unittest.TestCase):
+class Mutants(unittest.TestCase):
     def test_each_edit_says_its_mistake_in_words(self):
         """In its first line: a sentence of its own, and not its name once more."""
         found = set()
@@ -93,15 +93,15 @@ class WrongBodies(unittest.TestCase):
             self.assertTrue(any(text != made.trust.text_of(file) for file, text in texts.items()), path)
 
     def test_each_edit_has_a_row(self):
-        text = made.text_of_page("docs/WRONG_BODIES.md")
+        text = made.text_of_page("docs/made/MUTANTS.md")
         for crate in made.crates():
             for path in made.trust.files_below(f"crates/{crate}/must-fail", ".edit"):
-                self.assertIn(f"](../{path}) |\n", text)
+                self.assertIn(f"](../../{path}) |\n", text)
 
 
 class Calls(unittest.TestCase):
     def setUp(self):
-        self.text = made.trust.text_of("docs/CALLS.md")
+        self.text = made.trust.text_of("docs/made/CALLS.md")
 
     def section(self, crate):
         return self.text.partition(f"\n## {crate}\n")[2].partition("\n## ")[0]

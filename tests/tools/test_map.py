@@ -169,7 +169,7 @@ class Map(unittest.TestCase):
 class OnOnePage(unittest.TestCase):
     """What is said on one page alone, the made pages apart."""
 
-    MADE = {"docs/TRUST.md", "docs/DEFINITIONS.md", "docs/CALLS.md", "docs/WRONG_BODIES.md"}
+    MADE = {"docs/made/TRUST.md", "docs/made/DEFINITIONS.md", "docs/made/CALLS.md", "docs/made/MUTANTS.md"}
 
     def pages(self):
         pages = ["README.md", "examples/README.md", *glob.glob("docs/*.md", root_dir=TOP), *readmes()]

@@ -8,7 +8,7 @@ import unittest
 
 from common import TOP, module
 
-made = module("tests/made")
+made = module("tools/made")
 
 PAGES = ("docs/PROVED.md", "docs/ANSWERS.md", "docs/ASSURANCE.md")
 # Words in backquotes that are of the formats, of the toolchain or of std, and no names of ours.

@@ -47,7 +47,7 @@ class Run(ToolTest):
 
     def test_a_part_that_fails_is_shown_and_fails_all(self):
         self.part("tests/live_feed", "echo why; echo 3 passed, 2 failed; exit 1")
-        self.part("tests/made", "echo quiet; echo 1 passed, 0 failed")
+        self.part("tools/made", "echo quiet; echo 1 passed, 0 failed")
         status, said = self.ended()
         self.assertEqual((status, said[-1]), (1, "4 passed, 2 failed"))
         self.assertIn("why", said)
@@ -60,7 +60,7 @@ class Run(ToolTest):
             self.assertTrue(any(line.startswith("tests/live_feed: FAILED: it ended with status ") for line in said), said)
 
     def test_what_is_left_out_is_summed_up_by_its_cause(self):
-        for part in ("tests/live_feed", "tests/made"):
+        for part in ("tests/live_feed", "tools/made"):
             self.part(part, "echo 'left out: 2 tests: there is no jq (Debian: jq)'; echo 'left out: 1 test: of another cause'; echo 3 passed, 0 failed")
         status, said = self.ended()
         self.assertEqual(status, 0)
@@ -69,7 +69,7 @@ class Run(ToolTest):
     def test_parts_go_side_by_side(self):
         """Each of two waits until the other has begun; one after the other both would wait in vain."""
         for mine, other in (("trust", "made"), ("made", "trust")):
-            self.part(f"tests/{mine}", f": >begun.{mine}; for _ in $(seq 500); do [ -e begun.{other} ] && echo 1 passed, 0 failed && exit; sleep 0.02; done")
+            self.part(f"tools/{mine}", f": >begun.{mine}; for _ in $(seq 500); do [ -e begun.{other} ] && echo 1 passed, 0 failed && exit; sleep 0.02; done")
         self.assertEqual(self.ended("--jobs", "2")[1][-1], "2 passed, 0 failed")
 
     def test_the_parts_are_told_which_builds_are_tested(self):
@@ -80,7 +80,8 @@ class Run(ToolTest):
         """Each script of tests/ and each module of its folders is a part, but what needs the toolchain."""
         found = {it.split()[0] for it in run.parts()}
         scripts = {f"tests/{it.name}" for it in os.scandir(f"{TOP}/tests") if it.is_file() and os.access(it.path, os.X_OK)}
-        self.assertEqual({it for it in found if it.count("/") == 1}, scripts - {"tests/run", "tests/toolchain", "tests/page_module"})
+        made = {"tools/made", "tools/trust"}  # they compare the pages that they make
+        self.assertEqual({it for it in found if it.count("/") == 1}, scripts - {"tests/run", "tests/toolchain", "tests/page_module"} | made)
         for folder in ("tests/front", "tests/page", "tests/tools"):
             modules = {it.name.removesuffix(".py") for it in os.scandir(f"{TOP}/{folder}") if it.name.startswith("test_")}
             self.assertEqual({it.split()[1] for it in run.parts() if it.startswith(folder)}, modules)

@@ -70,7 +70,13 @@ fn work_all<R: Threads + Sync, G: Gate>(
 }
 
 /// The part that ends at a time. If no clerk has one, it is counted: the moment before that time.
-fn part_upto<G: Gate>(config: &Config, clerks: &mut [Clerk], seed: u32, time: u32, gate: &G) -> Stint
+fn part_upto<G: Gate>(
+    config: &Config,
+    clerks: &mut [Clerk],
+    seed: u32,
+    time: u32,
+    gate: &G,
+) -> Stint
     requires some { 1 ≤ length clerks.old }
     requires early { 0 < time }
     requires few { time ≤ 10000 }

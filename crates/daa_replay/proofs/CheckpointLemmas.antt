@@ -38,7 +38,8 @@ pub behind-there : (piece : Bytes) (done : ℕ) (l : LinesState) (m : MomentsSta
 behind-there piece done l m None e within has counted format = tt
 behind-there piece done l m (Some place) e within has counted format = place-there piece done l m place e within has counted format
 
-pub lines-stand : (piece : Bytes) (done : ℕ) (l : LinesState) (m : MomentsState) (place : Checkpoint) → reading done l m ≡ reading_at place → IsCheckpoint piece place → HasLines (length piece - place.done) l
+pub lines-stand : (piece : Bytes) (done : ℕ) (l : LinesState) (m : MomentsState) (place : Checkpoint) → reading done l m ≡ reading_at place
+    → IsCheckpoint piece place → HasLines (length piece - place.done) l
 lines-stand piece done l m place e there =
     subst (λ (x : LinesState). HasLines (length piece - place.done) x) (sym (ap (λ (r : Reading). r.lines) e)) (lines-there piece place there)
 

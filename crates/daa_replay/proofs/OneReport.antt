@@ -1,6 +1,6 @@
 -- Exactly one text is the report of an input.
 use Rattle.std.proofs.Common.{◌≡◌, ◌∙◌, Bool, List, [], ◌∷◌, ◌++◌, refl, sym, ap, ap₂, subst, append_assoc, inl, inr}
-use Rattle.daa_bands.specs.Chunks.{SplitsByEach}
+use Rattle.daa_bands.specs.Parts.{SplitsByEach}
 use Rattle.daa_config.specs.Settings.{Settings, IsAccepted}
 use Rattle.daa_lines.specs.LinesOf.{Bytes}
 use Rattle.daa_report.specs.Lines.{Text}

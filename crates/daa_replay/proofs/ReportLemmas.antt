@@ -1,7 +1,7 @@
 -- A beginning of a report.
 use Rattle.std.proofs.Common.{◌≡◌, ◌∙◌, Bool, List, [], ◌∷◌, ◌++◌, Result, Ok, Err, refl, ap, append_assoc, inl}
 use Rattle.std.specs.Prelude.{OnErr, OnOk}
-use Rattle.daa_bands.specs.Chunks.{SplitsByEach}
+use Rattle.daa_bands.specs.Parts.{SplitsByEach}
 use Rattle.daa_config.specs.Settings.{Settings}
 use Rattle.daa_lines.specs.LinesOf.{Bytes}
 use Rattle.daa_report.specs.Lines.{Text}

@@ -3,7 +3,7 @@ use Rattle.std.proofs.Common.{suc, arith, Bool, List, [], ◌∷◌, ◌++◌, r
 use Rattle.std.specs.Prelude.{All, IfOk, codes}
 use Rattle.std.proofs.lemmas.Result.{IfOk-weaker}
 use Rattle.daa_fixed.specs.One.{HasOne}
-use Rattle.daa_bands.specs.Chunks.{SplitsByEach}
+use Rattle.daa_bands.specs.Parts.{SplitsByEach}
 use Rattle.daa_config.specs.Settings.{Settings, IsAccepted}
 use Rattle.daa_lines.specs.LinesOf.{Bytes, lines_of}
 use Rattle.daa_state.specs.Fault.{code_of}

@@ -1,6 +1,6 @@
 -- The texts of lists of events.
 use Rattle.std.proofs.Common.{List, [], ◌∷◌, ◌++◌, refl, sym, append_assoc, append-nil, inl}
-use Rattle.daa_bands.specs.Chunks.{SplitsByEach}
+use Rattle.daa_bands.specs.Parts.{SplitsByEach}
 use Rattle.daa_config.specs.Settings.{Settings}
 use Rattle.daa_report.specs.Lines.{Text}
 use Rattle.daa_replay.specs.declared.lines.Event.{Event}

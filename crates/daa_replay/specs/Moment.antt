@@ -4,7 +4,7 @@ use Rattle.daa_config.specs.Settings.{Settings}
 use Rattle.daa_lines.specs.LinesOf.{Bytes}
 use Rattle.daa_state.specs.Fault.{code_of}
 use Rattle.daa_report.specs.Lines.{Text, numbers_line}
-use Rattle.daa_bands.specs.Chunks.{SplitsByEach}
+use Rattle.daa_bands.specs.Parts.{SplitsByEach}
 use Rattle.daa_engine.specs.MomentText.{IsMomentText}
 use Rattle.daa_replay.specs.declared.lines.Event.{Event}
 use Rattle.daa_replay.specs.declared.lines.Event.TheVariants as event

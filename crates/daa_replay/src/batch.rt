@@ -253,7 +253,14 @@ impl Lane {
 
     /// Writes the texts of the events from a place up to a byte on the sheet, behind its other
     /// parts, as far as there is room.
-    fn write<G: Gate>(&mut self, config: &Config, piece: &[u8], from: Checkpoint, until: usize, gate: &G)
+    fn write<G: Gate>(
+        &mut self,
+        config: &Config,
+        piece: &[u8],
+        from: Checkpoint,
+        until: usize,
+        gate: &G,
+    )
         requires there { IsCheckpoint piece.now from }
         requires filled { IsFilled config.now piece.now self.old }
         ensures { IsFilled config.now piece.now self.new }

@@ -101,7 +101,12 @@ impl Checkpoint {
 }
 
 /// The place at the end of a moment of this time, where so many bytes of a piece are fed.
-pub(crate) fn place_after(lines: &Lines, moments: &Moments, time: u32, done: usize) -> Option<Checkpoint>
+pub(crate) fn place_after(
+    lines: &Lines,
+    moments: &Moments,
+    time: u32,
+    done: usize,
+) -> Option<Checkpoint>
     requires last { moments.now.last ≡ Some time }
     requires going { lines.now.ended ≡ false }
     ensures stands { IfSome result

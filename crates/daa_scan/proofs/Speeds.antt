@@ -34,7 +34,8 @@ top_of settings own = int_max own.gs (greatest_of kind.GroundSpeed settings)
 -- no vertical speed is greater
 abbrev pub rise_of : Settings → Own → ℤ
 rise_of settings own =
-    int_max (int_max (pos (unsigned_abs own.vs)) (pos (unsigned_abs (least_of kind.VerticalSpeed settings)))) (int_max (pos (unsigned_abs (greatest_of kind.VerticalSpeed settings))) settings.numbers.alt.rate)
+    int_max (int_max (pos (unsigned_abs own.vs)) (pos (unsigned_abs (least_of kind.VerticalSpeed settings))))
+    (int_max (pos (unsigned_abs (greatest_of kind.VerticalSpeed settings))) settings.numbers.alt.rate)
 
 max_left : (x y : ℤ) → x ≤ℤ int_max x y
 max_left x y = omega (arith, ints, int_max_is x y)
@@ -94,7 +95,8 @@ module _ (settings : Settings) (own : Own) (settled : IsAccepted settings) (o : 
   sized x r h = record { least = omega (arith, ints); most = omega (arith, ints) }
 
   vs_size : pos (unsigned_abs own.vs) ≤ℤ rise_of settings own
-  vs_size = le_trans_ℤ _ _ _ (max_left _ (pos (unsigned_abs (least_of kind.VerticalSpeed settings)))) (max_left _ (int_max (pos (unsigned_abs (greatest_of kind.VerticalSpeed settings))) settings.numbers.alt.rate))
+  vs_size = le_trans_ℤ _ _ _ (max_left _ (pos (unsigned_abs (least_of kind.VerticalSpeed settings))))
+      (max_left _ (int_max (pos (unsigned_abs (greatest_of kind.VerticalSpeed settings))) settings.numbers.alt.rate))
 
   low_size : pos (unsigned_abs (least_of kind.VerticalSpeed settings)) ≤ℤ rise_of settings own
   low_size = le_trans_ℤ _ _ _ (max_right (pos (unsigned_abs own.vs)) _) (max_left _ (int_max (pos (unsigned_abs (greatest_of kind.VerticalSpeed settings))) settings.numbers.alt.rate))

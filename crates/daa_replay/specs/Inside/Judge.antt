@@ -1,7 +1,7 @@
 -- How far the report of states was compared with what a source hands out.
 use Rattle.std.specs.Prelude.{ℕ, ◌≤◌, ◌-◌, ◌++◌, true, List, [], Result, Ok, Err, ◌≡◌, ◌≢◌, IfErr, length, take}
 use Rattle.daa_ahead.specs.Bytes.{StreamState}
-use Rattle.daa_bands.specs.Chunks.{SplitsByEach}
+use Rattle.daa_bands.specs.Parts.{SplitsByEach}
 use Rattle.daa_config.specs.Settings.{Settings}
 use Rattle.daa_judge.specs.Matching.{IsMatched, Compares}
 use Rattle.daa_judge.specs.declared.found.Found.{Found}
