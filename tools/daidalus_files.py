@@ -9,6 +9,7 @@ import signal
 import sys
 from typing import NamedTuple
 
+import keys
 import progress
 from toml_1_1 import Scalar, TomlFault, read_toml
 
@@ -122,30 +123,14 @@ def is_utf_16(text):
 LONGEST_TEXT, MOST_LEVELS, MOST_VALUES = 65536, 4, 512
 
 
-class Place(NamedTuple):
-    """A number's place: the least and the greatest that it may be, and its unit."""
-
-    low: int
-    high: int
-    unit: str
-
-
-TOP = {"resolve": Place(1, 4, "a level"), "turn_rate": Place(1, 30, "degree per second"),
-       "track_step": Place(1, 90, "degree, a divisor of 360"), "last_times": Place(0, 1, "0 or 1")}
-GRIDS = {
-    "gs": {"min": Place(0, 10000, "0.1 kt"), "max": Place(0, 10000, "0.1 kt"),
-           "step": Place(1, 10000, "0.1 kt"), "rate": Place(1, 10000, "0.1 kt per second")},
-    "vs": {"min": Place(-10000, 10000, "ft/min"), "max": Place(-10000, 10000, "ft/min"),
-           "step": Place(1, 20000, "ft/min"), "rate": Place(1, 10000, "ft/min per second")},
-    "alt": {"min": Place(-2000, 60000, "ft"), "max": Place(-2000, 60000, "ft"),
-            "step": Place(1, 62000, "ft"), "rate": Place(1, 10000, "ft/min")}}
-LEVEL = {"dthr": Place(1, 10000, "0.001 NM"), "zthr": Place(0, 10000, "ft"), "tthr": Place(0, 120, "s"),
-         "tcoa": Place(0, 120, "s"), "lookahead": Place(1, 180, "s"), "alert": Place(1, 180, "s"),
-         "tcpa": Place(0, 1, "0 or 1"), "tau": Place(0, 1, "0 or 1"), "tep": Place(0, 1, "0 or 1")}
+TOP = {key.name: key for key in keys.of_table("")}
+GRIDS = {kind: {key.name: key for key in keys.of_table(kind)} for kind in ("gs", "vs", "alt")}
+LEVEL = {key.name: key for key in keys.of_table("level")}
 # The models by their keys, in the order in which their volumes lie one within the next where the thresholds are the same.
 MODELS = {"tau": "WCV_TAU", "tcpa": "WCV_TCPA", None: "WCV_TAUMOD", "tep": "WCV_TEP"}
 MODEL_KEYS = [key for key in LEVEL if key in MODELS]
-RECOVERY = {"hdist": Place(1, 10000, "0.001 NM"), "vdist": Place(0, 10000, "ft"), "nearest": Place(0, 1, "0 or 1")}
+RECOVERY = {key.name: key for key in keys.of_table("recovery")}
+TABLES = {table.name: table for table in keys.TABLES}
 
 
 class Fault(NamedTuple):
@@ -208,8 +193,7 @@ def examine_config(text):
 
 
 def faults_of_document(document):
-    tops = {**TOP, **dict.fromkeys((*GRIDS, "level", "recovery"))}
-    yield from faults_of_keys("", document, tops, ("last_times", "recovery"))
+    yield from faults_of_keys("", document, {**TOP, **TABLES})
     yield from faults_of_numbers("", document, TOP)
     for name, places in (*GRIDS.items(), ("recovery", RECOVERY)):
         if name not in document:
@@ -218,18 +202,18 @@ def faults_of_document(document):
         if not isinstance(table, dict):
             yield Fault(5, f"{name} is {shown(table)} and no table")
             continue
-        yield from faults_of_keys(f"{name}.", table, places, ("nearest",))
+        yield from faults_of_keys(f"{name}.", table, places)
         yield from faults_of_numbers(f"{name}.", table, places)
     yield from faults_of_steps(document)
     yield from faults_of_levels(document)
 
 
-def faults_of_keys(where, table, places, optional=()):
+def faults_of_keys(where, table, places):
     for key in table:
         if key not in places:
             yield Fault(3, f"{where}{shown_key(key)} is no key; known are {', '.join(places)}")
     for key in places:
-        if key not in table and key not in optional:
+        if key not in table and not places[key].may_be_left_out:
             yield Fault(4, f"{where}{key} is missing")
 
 
@@ -277,7 +261,7 @@ def faults_of_levels(document):
         if not isinstance(level, dict):
             yield Fault(5, f"level {number} is {shown(level)} and no table")
             continue
-        yield from faults_of_keys(f"level {number}, ", level, LEVEL, MODEL_KEYS)
+        yield from faults_of_keys(f"level {number}, ", level, LEVEL)
         yield from faults_of_numbers(f"level {number}, ", level, LEVEL)
         chosen = [key for key in MODEL_KEYS if type(level.get(key)) is int and level[key] == 1]
         if len(chosen) > 1:
@@ -324,11 +308,14 @@ class Field(NamedTuple):
     unit: str
 
 
-X, Y = Field("X", -200000, 200000, "0.001 NM"), Field("Y", -200000, 200000, "0.001 NM")
-ALT, TRK = Field("ALT", -2000, 60000, "ft"), Field("TRK", 0, 359, "degree")
-GS, VS = Field("GS", 0, 10000, "0.1 kt"), Field("VS", -10000, 10000, "ft/min")
-VX, VY = Field("VX", -10000, 10000, "0.1 kt"), Field("VY", -10000, 10000, "0.1 kt")
-ID, AGE = Field("ID", 0, 0, ""), Field("AGE", 0, 60, "s")
+def fields_of(line):
+    """The numbers of a state line, by the names that messages give them."""
+    return [Field(key.name.upper(), key.low, key.high, key.unit) for key in keys.of_table(line)]
+
+
+X, Y, ALT, TRK, GS, VS = fields_of("own")
+*_, VX, VY, _, AGE = fields_of("traffic")
+ID = Field("ID", 0, 0, "")
 FIELDS = {"moment": [Field("T", 0, 2**32 - 1, "s")], "own": [X, Y, ALT, TRK, GS, VS],
           "traffic": [ID, X, Y, ALT, VX, VY, VS], "end": [], "format": [Field("N", 1, 2, "")]}
 MOST_LINE_BYTES, MOST_AIRCRAFT = 255, 64
