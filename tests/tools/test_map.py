@@ -197,10 +197,10 @@ class Layout(unittest.TestCase):
                     self.assertLessEqual(len(line), 100, f"{path}:{number}")
 
 
-class WrongBodies(unittest.TestCase):
+class Mutants(unittest.TestCase):
     def setUp(self):
         text = read("docs/CONTRIBUTING.md")
-        self.rows = re.findall(r"^\| (.*) \| (.*) \|$", text.split("| The wrong body |")[1], re.M)
+        self.rows = re.findall(r"^\| (.*) \| (.*) \|$", text.split("| The mutant |")[1], re.M)
 
     def test_each_row_names_what_refuses_it(self):
         self.assertGreater(len(self.rows), 6)
