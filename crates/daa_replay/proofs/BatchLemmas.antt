@@ -14,7 +14,7 @@ use Rattle.daa_ahead.specs.Bytes.{ToldBytes}
 use Rattle.daa_replay.specs.declared.lines.Event.{Event}
 use Rattle.daa_replay.specs.Moment.{IsEventText}
 use Rattle.daa_replay.specs.Inside.Moment.{BeginsText}
-use Rattle.daa_replay.specs.declared.batch.Chunk.{Chunk}
+use Rattle.daa_replay.specs.declared.lane.Chunk.{Chunk}
 use Rattle.daa_replay.specs.declared.checkpoint.Checkpoint.{Checkpoint}
 use Rattle.daa_replay.specs.Lines.{is_refusal}
 use Rattle.daa_replay.specs.Inside.Batch.{AddsText, AddsTexts, Fails, IsChunk, Shares, StopsWithin, TakesTexts, Tells}

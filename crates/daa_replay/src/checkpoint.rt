@@ -8,9 +8,9 @@ ghost use Rattle.daa_state.specs.MomentStep.{step};
 ghost use Rattle.daa_replay.specs.declared.lines.Event.{Event};
 ghost use Rattle.daa_replay.specs.Lines.{next_state};
 ghost use Rattle.daa_replay.specs.Inside.Lines.{Follows};
-ghost use Rattle.daa_replay.specs.Inside.Checkpoint.{IsCheckpoint, lines_at, moments_at, reading, reading_at};
+ghost use Rattle.daa_replay.specs.Inside.Checkpoint.{HasLast, IsCheckpoint, lines_at, moments_at, reading, reading_at};
 
-use crate::lines::step;
+use crate::lines::{Event, step};
 use daa_lines::Lines;
 use daa_state::{Moments, Own, Word};
 
@@ -155,4 +155,24 @@ pub(crate) fn place_in_front(lines: &mut Lines, moments: &mut Moments) -> Option
         last: None,
         format: 1,
     })
+}
+
+/// The place behind an event, if it is an ended moment.
+pub(crate) fn place_behind(
+    lines: &Lines,
+    moments: &Moments,
+    event: &Event,
+    done: usize,
+) -> Option<Checkpoint>
+    requires last { HasLast event.now moments.now }
+    requires going { lines.now.ended ≡ false }
+    ensures stands { IfSome result
+        (λ place. reading done lines.now moments.now ≡ reading_at place) }
+    ensures counted { IfSome result (λ place. place.number ≤ place.fed) }
+    ensures format { IfSome result (λ place. IsFormat place.format) }
+{
+    match event {
+        Event::Ended(picture) => place_after(lines, moments, picture.time, done),
+        Event::Refused(_, _) => None,
+    }
 }

@@ -15,14 +15,13 @@ ghost use Rattle.daa_replay.specs.Moment.{IsEventText};
 ghost use Rattle.daa_replay.specs.Outside.{ShelfState, outside};
 ghost use Rattle.daa_replay.specs.Inside.Run.{Judges, Leaves};
 
-use crate::batch::{
-    Batch, batch_in, clear_lanes, fill_from, has_two_ends, next_part, pass_here, place_behind,
-    unit_of,
-};
+use crate::batch::{Batch, batch_in, clear_lanes, fill_from, next_part, pass_here};
+use crate::checkpoint::{Checkpoint, place_behind, place_in_front};
 use crate::events::{Progress, begin, has_more, next_event, next_of_lines};
+use crate::guesses::has_two_ends;
+use crate::lane::unit_of;
 use crate::lines::Event;
 use crate::moment::{Context, write_event_alone};
-use crate::checkpoint::{Checkpoint, place_in_front};
 use crate::status::{Status, status_of};
 use daa_config::Config;
 use daa_engine::Engine;

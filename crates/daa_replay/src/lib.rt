@@ -6,13 +6,15 @@
 #![tactic(auto)]
 
 mod batch;
+mod checkpoint;
 mod events;
+mod guesses;
 mod judge;
+mod lane;
 mod laws;
 mod lines;
 mod moment;
 mod opening;
-mod checkpoint;
 mod program;
 mod replay;
 mod status;

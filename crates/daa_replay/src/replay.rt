@@ -9,8 +9,9 @@ ghost use Rattle.daa_ahead.specs.Taker.{CanTake, TakesBytes};
 ghost use Rattle.daa_replay.specs.Outside.{ShelfState, outside};
 ghost use Rattle.daa_replay.specs.Inside.Run.{Leaves, Replays};
 
-use crate::batch::{Batch, batch_in, has_two_ends, write_together};
+use crate::batch::{Batch, batch_in, write_together};
 use crate::events::{Progress, any_refusal, begin, has_more, next_event};
+use crate::guesses::has_two_ends;
 use crate::moment::{Context, write_event};
 use crate::status::Status;
 use daa_ahead::{BUFFER, Calls, Ended, Taker, ahead, in_turn};

@@ -8,8 +8,8 @@ use Rattle.daa_lines.specs.LinesOf.{Bytes}
 use Rattle.daa_report.specs.Lines.{Text}
 use Rattle.daa_ahead.specs.Bytes.{ToldBytes}
 use Rattle.daa_replay.specs.declared.lines.Event.{Event}
-use Rattle.daa_replay.specs.declared.batch.Lane.{Lane}
-use Rattle.daa_replay.specs.declared.batch.Chunk.{Chunk}
+use Rattle.daa_replay.specs.declared.lane.Lane.{Lane}
+use Rattle.daa_replay.specs.declared.lane.Chunk.{Chunk}
 use Rattle.daa_replay.specs.declared.checkpoint.Checkpoint.{Checkpoint}
 use Rattle.daa_replay.specs.Lines.{is_refusal}
 use Rattle.daa_replay.specs.Moment.{IsEventText}

@@ -1,5 +1,5 @@
 use Rattle.std.proofs.Common.{subst, sym}
-use Rattle.daa_replay.specs.declared.batch.Lane.{Lane}
+use Rattle.daa_replay.specs.declared.lane.Lane.{Lane}
 use Rattle.daa_replay.specs.Inside.Batch.{IsFilled}
 use Rattle.daa_replay.proofs.batch.part_from.Goals as goal
 

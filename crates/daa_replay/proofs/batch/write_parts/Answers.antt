@@ -1,5 +1,5 @@
 use Rattle.std.proofs.Common.{◌∙◌, All, Bool, List, arith, refl, subst, sym}
-use Rattle.daa_replay.specs.declared.batch.Lane.{Lane}
+use Rattle.daa_replay.specs.declared.lane.Lane.{Lane}
 use Rattle.daa_replay.specs.Inside.Batch.{Fails, HasTexts, IsFilled, Shares}
 use Rattle.daa_replay.specs.Inside.Checkpoint.{reading_at}
 use Rattle.daa_replay.proofs.BatchLemmas.{fails-part, shares-join, shares-none}

@@ -1,6 +1,6 @@
 use Rattle.std.proofs.Common.{All, List, arith, subst, sym}
 use Rattle.daa_ahead.specs.Bytes.{stream_state}
-use Rattle.daa_replay.specs.declared.batch.Lane.{Lane}
+use Rattle.daa_replay.specs.declared.lane.Lane.{Lane}
 use Rattle.daa_replay.specs.Inside.Batch.{HasTexts, IsFilled}
 use Rattle.daa_replay.specs.Inside.Checkpoint.{reading_at}
 use Rattle.daa_replay.proofs.JudgeLemmas.{between-join, between-none, between-part, stops-later}

@@ -3,7 +3,7 @@ use Rattle.daa_replay.specs.Inside.Batch.{AddsTexts}
 use Rattle.daa_replay.specs.Inside.Checkpoint.{Reading, reading, reading_at}
 use Rattle.daa_replay.proofs.BatchLemmas.{adds-event, adds-none, adds-pass}
 use Rattle.daa_replay.proofs.CheckpointLemmas.{lines-stand}
-use Rattle.daa_replay.proofs.batch.Lane.add_moment.Goals as goal
+use Rattle.daa_replay.proofs.lane.Lane.add_moment.Goals as goal
 
 pub loop-done-init : goal.loop-done-init
 loop-done-init g c =

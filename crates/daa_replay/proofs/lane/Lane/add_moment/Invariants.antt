@@ -2,7 +2,7 @@ use Rattle.std.proofs.Common.{◌≡◌, ◌≤◌, ◌-◌, length}
 use Rattle.daa_replay.specs.Inside.Batch.{AddsTexts}
 use Rattle.daa_replay.specs.Inside.Events.{HasLines}
 use Rattle.daa_replay.specs.Inside.Checkpoint.{reading, reading_at}
-use Rattle.daa_replay.proofs.batch.Lane.add_moment.Given as goal
+use Rattle.daa_replay.proofs.lane.Lane.add_moment.Given as goal
 
 -- the texts so far were added
 abbrev pub invariant-loop-done : goal.invariant-loop-done

@@ -4,7 +4,7 @@ use Rattle.daa_replay.specs.Inside.Batch.{AddsTexts}
 use Rattle.daa_replay.specs.Inside.Checkpoint.{reading_at}
 use Rattle.daa_replay.proofs.BatchLemmas.{adds-join, adds-none}
 use Rattle.daa_replay.proofs.CheckpointLemmas.{same-reading}
-use Rattle.daa_replay.proofs.batch.Lane.add_moments.Goals as goal
+use Rattle.daa_replay.proofs.lane.Lane.add_moments.Goals as goal
 
 pub loop-reach-init : goal.loop-reach-init
 loop-reach-init g c = record {

@@ -1,7 +1,7 @@
 use Rattle.std.proofs.Common.{◌≡◌, ◌-◌}
 use Rattle.daa_replay.specs.Inside.Batch.{AddsTexts}
 use Rattle.daa_replay.specs.Inside.Checkpoint.{IsCheckpoint, reading, reading_at}
-use Rattle.daa_replay.proofs.batch.Lane.add_moments.Given as goal
+use Rattle.daa_replay.proofs.lane.Lane.add_moments.Given as goal
 
 -- the texts up to a place were added, where the next moment begins
 abbrev pub invariant-loop-reach : goal.invariant-loop-reach

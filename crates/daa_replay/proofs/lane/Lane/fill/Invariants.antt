@@ -1,5 +1,5 @@
 use Rattle.daa_replay.specs.Inside.Batch.{IsFilled}
-use Rattle.daa_replay.proofs.batch.Lane.fill.Given as goal
+use Rattle.daa_replay.proofs.lane.Lane.fill.Given as goal
 
 -- each part so far has its texts
 abbrev pub invariant-loop : goal.invariant-loop

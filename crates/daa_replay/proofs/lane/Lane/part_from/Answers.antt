@@ -4,8 +4,8 @@ use Rattle.std.specs.List.Sorted.{IsBinarySearchResult}
 use Rattle.std.specs.Ordering.{nat_cmp}
 use Rattle.std.proofs.lemmas.Cmp.{ranked}
 use Rattle.std.proofs.lemmas.List.Sorted.{answers_always}
-use Rattle.daa_replay.specs.declared.batch.Chunk.{Chunk}
-use Rattle.daa_replay.proofs.batch.Lane.part_from.Goals as goal
+use Rattle.daa_replay.specs.declared.lane.Chunk.{Chunk}
+use Rattle.daa_replay.proofs.lane.Lane.part_from.Goals as goal
 
 -- where a search for a number of bytes ends at a part, the part begins behind so many
 found : (done place : ℕ) (parts : List Chunk) (r : Result ℕ ℕ) → IsBinarySearchResult (λ (part : Chunk). nat_cmp part.from.done done) parts r

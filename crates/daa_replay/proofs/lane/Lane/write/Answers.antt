@@ -1,9 +1,9 @@
 use Rattle.std.proofs.Common.{All, List, ap, length, subst, sym}
-use Rattle.daa_replay.specs.declared.batch.Chunk.{Chunk}
+use Rattle.daa_replay.specs.declared.lane.Chunk.{Chunk}
 use Rattle.daa_replay.specs.Inside.Batch.{IsChunk}
 use Rattle.daa_replay.specs.Inside.Checkpoint.{reading_at}
 use Rattle.daa_replay.proofs.BatchLemmas.{part-added, parts-stay}
-use Rattle.daa_replay.proofs.batch.Lane.write.Goals as goal
+use Rattle.daa_replay.proofs.lane.Lane.write.Goals as goal
 
 pub returns : goal.returns
 returns g c =
