@@ -94,9 +94,9 @@ class Measurements(unittest.TestCase):
                 waiting += rows[name]
         self.assertIn(f"The {len(needed)} crates that the program needs", read("docs/MEASUREMENTS.md"))
 
-    def test_the_edits(self):
-        edits = glob.glob(os.path.join(TOP, "crates", "*", "must-fail", "*"))
-        self.assertIn(f"There are {len(edits)} edits now.", read("docs/MEASUREMENTS.md"))
+    def test_the_mutants(self):
+        mutants = glob.glob(os.path.join(TOP, "crates", "*", "must-fail", "*"))
+        self.assertIn(f"There are {len(mutants)} mutants now.", read("docs/MEASUREMENTS.md"))
 
 
 class Words(unittest.TestCase):
