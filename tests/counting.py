@@ -13,6 +13,7 @@ import unittest
 
 # Debian's package of each command that some tests call.
 PACKAGES = {"cc": "gcc", "c++": "g++", "cargo": "cargo", "node": "nodejs", "chromium": "chromium", "chromedriver": "chromium-driver",
+            "firefox-esr": "firefox-esr",
             "aarch64-linux-gnu-gcc": "gcc-aarch64-linux-gnu", "qemu-aarch64": "qemu-user", "parallel": "parallel", "jq": "jq",
             "pkg-config": "pkg-config", "cmake": "cmake", "make": "make", "tsc": "node-typescript", "dpkg-deb": "dpkg", "man": "man-db",
             "munged": "munge", "slurmctld": "slurmctld", "slurmd": "slurmd", "sbatch": "slurm-client",

@@ -8,12 +8,17 @@ from shared import ENCOUNTER, RECOVERY, text_of
 SIZES = ((1024, 700), (1024, 768), (1280, 800), (1920, 1080))
 SMALL = ((800, 600), (1366, 400), (844, 390), (390, 844))  # the last two of a telephone
 
-# Boxes of what is drawn, those of texts without the room above and below their letters; a text or symbol that stands outside of its display, or on another one.
+# Boxes of what is drawn; those of texts are of their letters, without the room above and below them, and without the halo, which a browser may
+# count as a part of what is on the screen, as Firefox does, or not, as Chromium.
 
 BOXES = """
 const [view] = arguments, figure = document.querySelector(`figure[data-view='${view}']`), svg = figure.querySelector("svg"), all = [];
 const box = (it) => { const b = it.getBoundingClientRect(); return { x: b.x, y: b.y, right: b.right, bottom: b.bottom }; };
-const letters = (it) => { const b = box(it), m = (b.bottom - b.y) / 10; return { ...b, y: b.y + m, bottom: b.bottom - m }; };
+const letters = (it) => {
+  const { x, y, width, height } = it.getBBox(), at = (...point) => new DOMPoint(...point).matrixTransform(it.getScreenCTM());
+  const [first, last] = [at(x, y + height / 10), at(x + width, y + 0.9 * height)];
+  return { x: first.x, y: first.y, right: last.x, bottom: last.y };
+};
 for (const it of svg.querySelectorAll("text")) {
   const layer = it.closest("[data-layer]").dataset.layer, handle = it.closest(".handle");
   const kind = layer === "handles" ? (handle.dataset.key.startsWith("p:") && it.classList.contains("halo") ? "label" : "inside") : layer;
