@@ -536,8 +536,11 @@ def own_line(own):
     return "own {} {} {} {} {} {}".format(*own)
 
 
+TRAFFIC_LINE = {1: "traffic {} {} {} {} {} {} {}", 2: "traffic {} {} {} {} {} {} {} {}"}
+
+
 def traffic_line(traffic, form):
-    return ("traffic {} {} {} {} {} {} {}" + " {}" * (form == 2)).format(*traffic)
+    return TRAFFIC_LINE[form].format(*traffic)
 
 
 def moment_lines(time, own, traffic, form, comments=()):

@@ -1,7 +1,6 @@
 """Makes moments of reports: each report of the ownship is one, at its whole second, with the latest report of every other aircraft until
 then. Reports are taken in the order of their times, one by one, so that a recording can be read while it is written."""
 import bisect
-import heapq
 import math
 import re
 
@@ -11,6 +10,7 @@ from headings import velocity
 from .plane import closest, offset, on_ellipsoid, rotated
 
 LAST_SECOND = FIELDS["moment"][0].high
+MOST_PLACE, MOST_SPEED, MOST_CLIMB, MOST_AGE = X.high, VX.high, VS.high, AGE.high  # the least ones are their opposites
 FARTHEST_OWN = 100  # NM: an ownship that is farther from where it began is put at 0 0
 ROUNDING = 1e-6  # s: what the rounding of a time's unit may cost
 CLOSE = 5  # NM: an aircraft that is nearer counts as if its closest approach were now
@@ -18,9 +18,9 @@ NEAR = 40  # NM: an aircraft that is left out and was nearer, flown straight on,
 FORGOTTEN = 300  # s: after so long an old report says nothing any more about where an aircraft is
 MOST_LACKS = 20  # aircraft that a moment lacks and that are named one by one
 MEASURED = 8  # aircraft of a moment, the nearest ones, of which it is measured what rounding costs
-# By how much of itself a distance in the plane may be off below this latitude: since a minute is no mile everywhere, and with the
-# distance's square since meridians run together.
-MOST_OFF, MOST_BENT, HIGH = 0.01, 1e-6, 80
+# By how much of itself a distance in the plane may be off below this latitude: since a minute has 1843 to 1862 m and not always the 1852
+# of a mile, and with the distance's square since meridians run together.
+MOST_OFF, MOST_BENT, HIGH = 0.0055, 1e-6, 80
 
 
 def whole_second(time):
@@ -70,17 +70,14 @@ class Losses:
     def note(self, east, north, seen_east, seen_north, v_east, v_north, seen_v_east, seen_v_north):
         """Notes what the program sees of an aircraft's place and speed, from its ownship, against what was recorded."""
         self.count += 1
-        if (place := math.hypot(seen_east - east, seen_north - north)) > self.place:
-            self.place = place
-        if (speed := math.hypot(seen_v_east - v_east, seen_v_north - v_north)) > self.speed:
-            self.speed = speed
-        off = abs(closest(seen_east, seen_north, seen_v_east, seen_v_north) - closest(east, north, v_east, v_north))
-        if off > self.closest:
-            self.closest = off
+        self.place = max(self.place, math.hypot(seen_east - east, seen_north - north))
+        self.speed = max(self.speed, math.hypot(seen_v_east - v_east, seen_v_north - v_north))
+        off = closest(seen_east, seen_north, seen_v_east, seen_v_north) - closest(east, north, v_east, v_north)
+        self.closest = max(self.closest, off, -off)
 
     def note_vertical(self, height, climb):
-        self.height = max(self.height, abs(height))
-        self.climb = max(self.climb, abs(climb))
+        self.height = max(self.height, height, -height)
+        self.climb = max(self.climb, climb, -climb)
 
     def note_plane(self, far, own_place, place):
         """Notes how far a distance in the plane is off, unless it can't be the greatest."""
@@ -114,6 +111,7 @@ class OwnFrame:
 
     def __init__(self, row, own, angle):
         self.row, self.own, self.angle = row, own, angle
+        self.time, self.x, self.y = row.time, own.x, own.y
         self.cos, self.sin = math.cos(angle), math.sin(angle)
         self.speed = self.turned(row.east, row.north)
         self.seen_speed = [part / 10 for part in velocity(own.gs, own.trk)]
@@ -141,7 +139,8 @@ class Maker:
 
     def take(self, row):
         """Takes a report; the moment that is whole by it, or None. A moment waits for what is reported at the same time."""
-        made = self.flush() if self.pending and row.time > self.pending.time else None
+        pending = self.pending
+        made = self.flush() if pending and row.time > pending.time else None
         if row.name != self.own_name:
             self.take_traffic(row)
         elif self.pending:
@@ -151,28 +150,26 @@ class Maker:
         return made
 
     def take_traffic(self, row):
-        held = self.latest.get(row.name)
+        name = row.name
+        held = self.latest.get(name)
         if row.lack:
-            self.incomplete[row.name] = row
+            self.incomplete[name] = row
         elif held and row.time < held.time:
-            self.unused[row.name] = self.unused.get(row.name, 0) + 1
+            self.unused[name] = self.unused.get(name, 0) + 1
         else:
             if held:
-                self.forget(row.name)
-                self.note_gap(row.name, row.time - held.time)
-            self.latest[row.name] = row
-            self.incomplete.pop(row.name, None)
-
-    def note_gap(self, name, seconds):
-        """Notes how long an aircraft was not heard."""
-        if seconds > self.gaps.get(name, 0):
-            self.gaps[name] = seconds
+                self.forget(name)
+                if (gap := row.time - held.time) > self.gaps.get(name, 0):
+                    self.gaps[name] = gap
+            self.latest[name] = row
+            if self.incomplete:
+                self.incomplete.pop(name, None)
 
     def forget(self, name):
         """The report of an aircraft is not the latest any more: notes whether no moment had it."""
-        if name in self.used:
-            self.used.discard(name)
-        else:
+        try:
+            self.used.remove(name)
+        except KeyError:
             self.unused[name] = self.unused.get(name, 0) + 1
 
     def flush(self):
@@ -229,27 +226,29 @@ class Maker:
 
     def traffic_of(self, row, frame, east, north, is_measured):
         """An aircraft's numbers, or None where they are out of range; notes what is lost where that is measured."""
-        own, own_row, cosine, sine = frame.own, frame.row, frame.cos, frame.sin
-        late = own_row.time - row.time
-        age = min(max(whole_second(late), 0), AGE.high)
+        name, time, _, height, east_speed, north_speed, climb, _, _ = row
+        cosine, sine = frame.cos, frame.sin
+        late = frame.time - time
+        age = int(late + ROUNDING) if late < MOST_AGE else MOST_AGE
         hours = (late - age) / 3600
-        far_east, far_north = east + row.east * hours, north + row.north * hours
-        place_x, place_y = far_east * cosine - far_north * sine, far_east * sine + far_north * cosine
-        speed_x, speed_y = row.east * cosine - row.north * sine, row.east * sine + row.north * cosine
-        height = row.alt + row.vs * hours * 60
-        x, y, alt, vx, vy, vs = round(1000 * place_x), round(1000 * place_y), round(height), round(10 * speed_x), round(10 * speed_y), round(row.vs)
-        if not (X.low <= own.x + x <= X.high and X.low <= own.y + y <= X.high and ALT.low <= alt <= ALT.high and VX.low <= vx <= VX.high
-                and VX.low <= vy <= VX.high and VS.low <= vs <= VS.high):
+        east_then, north_then = east + east_speed * hours, north + north_speed * hours
+        east_off, north_off = east_then * cosine - north_then * sine, east_then * sine + north_then * cosine
+        speed_x, speed_y = east_speed * cosine - north_speed * sine, east_speed * sine + north_speed * cosine
+        height += climb * hours * 60
+        x, y, alt, vx, vy, vs = round(1000 * east_off), round(1000 * north_off), round(height), round(10 * speed_x), round(10 * speed_y), round(climb)
+        place_x, place_y = frame.x + x, frame.y + y
+        if not (abs(place_x) <= MOST_PLACE and abs(place_y) <= MOST_PLACE and ALT.low <= alt <= ALT.high and abs(vx) <= MOST_SPEED
+                and abs(vy) <= MOST_SPEED and abs(vs) <= MOST_CLIMB):
             return None
         if is_measured:
-            self.measure(row, frame, (east, north), (place_x, place_y), (x, y), (speed_x, speed_y), (vx, vy), alt - height, vs)
-        return Traffic(self.ids[row.name], own.x + x, own.y + y, alt, vx, vy, vs, age)
+            self.measure(row, frame, (east, north), (east_off, north_off), (x, y), (speed_x, speed_y), (vx, vy), alt - height, vs)
+        return Traffic._make((self.ids[name], place_x, place_y, alt, vx, vy, vs, age))
 
     def measure(self, row, frame, way, place, seen_place, speed, seen_speed, rounded_up, vs):
         """Notes what rounding costs between the ownship and an aircraft."""
-        losses, own, own_row, own_speed, seen_own = self.losses, frame.own, frame.row, frame.speed, frame.seen_speed
-        losses.note(*place, seen_place[0] / 1000, seen_place[1] / 1000, speed[0] - own_speed[0], speed[1] - own_speed[1],
-                    seen_speed[0] / 10 - seen_own[0], seen_speed[1] / 10 - seen_own[1])
+        losses, own, own_row, (own_x, own_y), (seen_own_x, seen_own_y) = self.losses, frame.own, frame.row, frame.speed, frame.seen_speed
+        (x, y), (vx, vy), (seen_x, seen_y), (seen_vx, seen_vy) = place, speed, seen_place, seen_speed
+        losses.note(x, y, seen_x / 1000, seen_y / 1000, vx - own_x, vy - own_y, seen_vx / 10 - seen_own_x, seen_vy / 10 - seen_own_y)
         losses.note_vertical(rounded_up - own.alt + own_row.alt, vs - own.vs - row.vs + own_row.vs)
         if self.on_earth:
             losses.note_plane(math.hypot(*way), own_row.place, row.place)
@@ -259,21 +258,26 @@ class Maker:
         comments that name those that the moment lacks, the nearest one first."""
         own_row, there, lacking = frame.row, [], []
         now, own_place, on_earth = own_row.time, own_row.place, self.on_earth
-        for row in list(self.latest.values()):
-            late = now - row.time
+        oldest, old = self.oldest + ROUNDING, []
+        for row in self.latest.values():
+            name, time, place, _, east_speed, north_speed, _, _, _ = row
+            late = now - time
             if late > FORGOTTEN + ROUNDING:
-                self.forget(row.name)
-                del self.latest[row.name]
+                old.append(name)
                 continue
-            east, north = offset(own_place, row.place, on_earth)
+            east, north = offset(own_place, place, on_earth)
             hours = late / 3600
-            far = math.hypot(east + row.east * hours, north + row.north * hours)
-            if late > self.oldest + ROUNDING:
+            far = math.hypot(east + east_speed * hours, north + north_speed * hours)
+            if late > oldest:
                 self.leave_out("aircraft", f"whose report is older than {self.oldest:g} s, in a moment")
-                lacking.append((far, row.name, self.lack_of(row, own_row.time)))
-                self.note_gap(row.name, late)
+                lacking.append((far, name, self.lack_of(row, now)))
+                if late > self.gaps.get(name, 0):
+                    self.gaps[name] = late
             else:
                 there.append((far, row, east, north))
+        for name in old:
+            self.forget(name)
+            del self.latest[name]
         if len(there) > MOST_AIRCRAFT:
             there.sort(key=lambda one: self.rank(one[0], one[1], one[2:], own_row))
         found = self.found_of(there, frame, lacking)
@@ -284,7 +288,7 @@ class Maker:
         """The aircraft of a moment by their names; adds those that it lacks."""
         found, farthest = {}, math.inf
         if len(there) > MEASURED:
-            farthest = heapq.nsmallest(MEASURED, (one[0] for one in there))[-1]
+            farthest = sorted(one[0] for one in there)[MEASURED - 1]
             self.losses.is_in_part = True
         for far, row, east, north in there:
             made = self.traffic_of(row, frame, east, north, far <= farthest) if len(found) < MOST_AIRCRAFT else None

@@ -2,6 +2,7 @@
 advice and decides nothing."""
 import math
 import statistics
+from operator import attrgetter
 
 from .plane import offset
 
@@ -113,7 +114,7 @@ def by_name(rows):
         if not row.lack:
             found.setdefault(row.name, []).append(row)
     for some in found.values():
-        some.sort(key=lambda row: row.time)
+        some.sort(key=attrgetter("time"))
     return found
 
 

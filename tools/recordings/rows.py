@@ -1,5 +1,6 @@
 """Reads a table, one report of an aircraft a row."""
 import math
+import operator
 import re
 from typing import NamedTuple
 
@@ -176,10 +177,13 @@ class UsualRows:
 
     def __init__(self, table):
         self.table, at = table, table.at
-        self.mark = ";" if table.header.marks == ";" else ","
-        self.others = '";' if self.mark == "," else '"'
+        self.mark, self.other = (";", '"') if table.header.marks == ";" else (",", ";")
         self.name, self.time, self.label, self.ground = at["name"], at["time"], at.get("label"), at.get("ground")
-        self.numbers = [(at[column], table.worth[column]) for column in (*table.header.form("place"), table.header.altitude, "trk", "gs", "vs")]
+        columns = (*table.header.form("place"), table.header.altitude, "trk", "gs", "vs")
+        self.numbers = operator.itemgetter(*(at[column] for column in columns), self.time)
+        self.worths = [table.worth[column] for column in columns]
+        self.is_scaled = any(worth != 1 for worth in self.worths)
+        self.times, self.on_earth, self.columns = table.times, table.on_earth, table.columns
 
     @staticmethod
     def fit(table):
@@ -189,23 +193,26 @@ class UsualRows:
 
     def row(self, line):
         """The report of a row, or None where it may be another one than it looks."""
-        table, cells = self.table, line.split(self.mark)
-        if len(cells) != table.columns or self.others[0] in line or self.others[-1] in line:
+        cells = line.split(self.mark)
+        if len(cells) != self.columns or '"' in line or self.other in line:
             return None
         try:
-            north, east, alt, track, speed, vs = [float(cells[at]) * worth for at, worth in self.numbers]
-            time = table.times.scaled(float(cells[self.time]), cells[self.time])
+            north, east, alt, track, speed, vs, number = map(float, self.numbers(cells))
         except ValueError:
             return None
-        name = cells[self.name].strip()
-        is_usual = time is not None and abs(north) + abs(east) + abs(alt) + abs(track) + abs(speed) + abs(vs) + abs(time) < GREATEST
-        if not (name and is_usual) or table.on_earth and not (abs(north) <= MOST_LATITUDE and (north or east)):
+        if self.is_scaled:
+            north, east, alt, track, speed, vs = map(operator.mul, (north, east, alt, track, speed, vs), self.worths)
+        time, name = self.times.scaled(number, cells[self.time]), cells[self.name].strip()
+        if time is None or not name or not math.hypot(north, east, alt, track, speed, vs, time) < GREATEST:
+            return None
+        if self.on_earth and not (-MOST_LATITUDE <= north <= MOST_LATITUDE and (north or east)):
             return None
         if self.ground is not None and cells[self.ground].strip().lower() in ON_GROUND:
             return None
         if self.label is not None and cells[self.label].strip():
-            table.labels[name] = cells[self.label].strip()
-        table.first_name = table.first_name or name
+            self.table.labels[name] = cells[self.label].strip()
+        if self.table.first_name is None:
+            self.table.first_name = name
         angle = math.radians(track)
         return Row._make((name, time, (north, east), alt, speed * math.sin(angle), speed * math.cos(angle), vs, track, ""))
 

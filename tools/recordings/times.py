@@ -65,8 +65,10 @@ def number_of(cell):
 
 def has_all_digits(cell):
     """Whether a time since 1970 has all its seconds; a spreadsheet may write 1.71568E+09 and so take the last ones away."""
-    mantissa, mark, _ = cell.lower().partition("e")
-    return not mark or sum(letter.isdigit() for letter in mantissa) >= 10
+    if "e" not in cell and "E" not in cell:
+        return True
+    mantissa = cell.lower().partition("e")[0]
+    return sum(letter.isdigit() for letter in mantissa) >= 10
 
 
 class Times:
@@ -104,10 +106,11 @@ class Times:
                 self.scale = self.worth
             elif number >= LEAST_UTC:
                 self.forms[f"{what} since 1970"] = True
-        found = number * self.scale
         if LEAST_UTC <= number < GREATEST_SINCE_1970 and not has_all_digits(cell):
             return None
-        self.is_utc |= found >= LEAST_UTC
+        found = number * self.scale
+        if found >= LEAST_UTC:
+            self.is_utc = True
         return found
 
     def past_midnight(self, seconds, name):
