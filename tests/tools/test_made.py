@@ -41,14 +41,14 @@ class Definitions(unittest.TestCase):
         self.text = made.text_of_page("docs/made/DEFINITIONS.md")
 
     def test_each_definition_of_a_public_clause_is_listed_and_no_other(self):
-        found = made.trust.Trust()
+        found = made.believed()
         names = [key[2] for key in found.named(found.headline | found.public)]
         listed = [line.split("`")[1] for line in self.text.split("\n") if line.startswith(("- `", "- **`"))]
         self.assertGreater(len(listed), 700)
         self.assertEqual(sorted(listed), sorted(names))
 
     def test_the_headlines_definitions_are_in_bold(self):
-        found = made.trust.Trust()
+        found = made.believed()
         self.assertEqual(self.text.count("- **`"), len(found.named(found.headline)))
 
     def test_a_block_within_a_block_is_read(self):
