@@ -469,7 +469,7 @@ class Pipes(unittest.TestCase):
         for tool in TOOLS:
             out = subprocess.run([os.path.join(TOP, "tools", tool), "--help"], env={**os.environ, "COLUMNS": "80"}, capture_output=True, text=True)
             self.assertEqual((out.returncode, out.stderr), (0, ""))
-            self.assertRegex(out.stdout, r"\nStatus: 0(.|\n)*\b5 nobody\s+reads", tool)
+            self.assertRegex(out.stdout, r"\nExit status: 0(.|\n)*\b5 nobody\s+reads", tool)
             self.assertRegex(out.stdout, rf"\n  (\./daidalus .*\| )?tools/{tool} ", tool)
             self.assertLessEqual(max(map(len, out.stdout.splitlines())), 128, tool)
 

@@ -1,13 +1,13 @@
 #!/usr/bin/python3
-"""The rows of tools/study run, made by the workers of a Dask cluster: the same bytes.
+"""Writes the rows of tools/study run, made by the workers of a Dask cluster: the same bytes.
 
   tools/studies/on_dask.py --scheduler tcp://HOST:8786 --shards 64 examples/study.toml --count 2000 > rows.csv
 
-The words after --shards are those of tools/study run. Each worker finds this repository and the files by their paths, so that
-all machines need them at the same place. A shard whose worker dies is made by another one; the rows come in the shards' order.
-It takes Debian's python3-distributed.
+The words after --shards are those of tools/study run. Each worker finds this repository and the files by their paths, so all
+machines need them at the same place. If a worker dies, another one makes its shard. The rows come in the order of the shards.
+The tool needs Debian's python3-distributed.
 
-Status: 0; 1 a shard failed everywhere, or there is no cluster; 2 the command words are not taken.
+Exit status: 0 success; 1 a shard failed everywhere, or there is no cluster; 2 the command words are not accepted.
 """
 import argparse
 import os
