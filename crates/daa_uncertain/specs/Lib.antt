@@ -1,0 +1,3 @@
+pub mod PairBounds
+pub mod MayMeet
+pub mod Offset
