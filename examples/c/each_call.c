@@ -103,6 +103,18 @@ static void print_last_times(const struct daa_config *config, const struct daa_l
     }
 }
 
+static int is_same(const struct daa_recovery_answer *one, const struct daa_recovery_answer *other) {
+    return one->found == other->found && one->after == other->after && one->value == other->value;
+}
+
+/* The recovery of a kind is that of a side. */
+static void ask_of_sides(const struct daa_config *config, const struct daa_lines *moment, int32_t kind, const struct daa_recovery_answer *to) {
+    struct daa_recovery_answer lower, upper;
+    must(daa_recovery_side(config, &moment->own, moment->traffic, moment->count, kind, DAA_LOWER, &lower), "daa_recovery_side");
+    must(daa_recovery_side(config, &moment->own, moment->traffic, moment->count, kind, DAA_UPPER, &upper), "daa_recovery_side");
+    if (!is_same(to, &lower) && !is_same(to, &upper)) exit(1);
+}
+
 /* The recoveries of the kinds that have no open value on either side, where the configuration asks for them. */
 static void print_recoveries(const struct daa_config *config, const struct daa_lines *moment, const struct daa_board *board) {
     for (int32_t kind = DAA_TRACK; kind <= DAA_HEIGHT; kind++) {
@@ -112,6 +124,7 @@ static void print_recoveries(const struct daa_config *config, const struct daa_l
         must(daa_resolution(config, moment->time, &moment->own, board, kind, DAA_UPPER, &upper), "daa_resolution");
         if (!config->recovery || lower.what != 2 || upper.what != 2) continue;
         must(daa_recovery(config, &moment->own, moment->traffic, moment->count, kind, &to), "daa_recovery");
+        ask_of_sides(config, moment, kind, &to);
         if (to.found) printf("recover %s %u %d\n", kinds[kind], (unsigned)to.after, (int)to.value);
         else printf("recover %s none\n", kinds[kind]);
     }

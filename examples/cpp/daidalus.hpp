@@ -97,6 +97,13 @@ class Moment {
         return to;
     }
 
+    // The soonest recovery among the values on a side of the present one.
+    daa_recovery_answer recovery_side(int32_t kind, int32_t side) const {
+        daa_recovery_answer to;
+        check("daa_recovery_side", daa_recovery_side(config_.numbers(), &own_, aircraft(), traffic_.size(), kind, side, &to));
+        return to;
+    }
+
     daa_last_answer last(int32_t kind) const {
         daa_last_answer to;
         check("daa_last", daa_last(config_.numbers(), &own_, aircraft(), traffic_.size(), kind, &to));

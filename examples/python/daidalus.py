@@ -513,6 +513,12 @@ class Moment:
         self.engine.ask("daa_recovery", self.config, *self.picture, kind, byref(to))
         return Recovery(to.after, to.value) if to.found else None
 
+    def recovery_side(self, kind: Kind, side: Side) -> Optional[Recovery]:
+        """The soonest recovery among the values on a side of the present one."""
+        to = C.Recovery()
+        self.engine.ask("daa_recovery_side", self.config, *self.picture, kind, side, byref(to))
+        return Recovery(to.after, to.value) if to.found else None
+
     def last(self, kind: Kind) -> Optional[int]:
         """The greatest number of seconds, below the greatest lookahead of the levels that close, for which the present flight
         may be kept so that some candidate of the kind that begins then is open, or None, under a configuration that asks for

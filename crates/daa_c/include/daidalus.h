@@ -231,7 +231,7 @@ struct daa_resolution_answer {
     int32_t what, value;
 };
 
-/* The recovery of a kind. found: 1, and then after (seconds, 1 to 179) is the least time from which on some value violates
+/* The recovery of a kind, or on one side of it. found: 1, and then after (seconds, 1 to 179) is the least time from which on some value violates
  * no level from resolve up, while it stays out of the cylinder from now on, and value the least that does so, or with
  * nearest the one nearest to the present value, in the kind's unit; or 0 if there is none, and after and value are 0. */
 struct daa_recovery_answer {
@@ -456,6 +456,13 @@ int32_t daa_resolution(const struct daa_config *config, uint32_t time, const str
 DAA_MUST_USE
 int32_t daa_recovery(const struct daa_config *config, const struct daa_own *own, const struct daa_traffic *traffic,
                      size_t count, int32_t kind, struct daa_recovery_answer *out);
+
+/* Fills in the recovery on a side of a kind: the soonest of the values on that side of the present one, which is left or down
+ * itself. The sides are those of daa_resolution: a track is to the right if it is 1 to 180 degrees to the right, else to the
+ * left. The answer of daa_recovery is that of one of the two sides. */
+DAA_MUST_USE
+int32_t daa_recovery_side(const struct daa_config *config, const struct daa_own *own, const struct daa_traffic *traffic,
+                          size_t count, int32_t kind, int32_t side, struct daa_recovery_answer *out);
 
 /* Fills in the last time of a kind in a moment, under a configuration that asks for last times; else DAA_NOT_ASKED. It answers
  * whether or not the present flight is open; a report has the last times only where it is not. */

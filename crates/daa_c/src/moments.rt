@@ -6,6 +6,7 @@ ghost use Rattle.daa_numbers.specs.Asked.{HasMoreCandidates, AreBandsUnder, HasK
 ghost use Rattle.daa_numbers.specs.Asked.{HasMoreValues, HasNoKind, IsResolutionUnder, HasNoSide};
 ghost use Rattle.daa_numbers.specs.Asked.{HasSideBut, AsksForNone, AsksForNoLast};
 ghost use Rattle.daa_numbers.specs.Asked.{IsLastUnder, IsRecoveryUnder, IsReported, HasLongerText};
+ghost use Rattle.daa_numbers.specs.Asked.{HasNoRecovery, IsSideRecoveryUnder};
 ghost use Rattle.daa_numbers.specs.Boards.{IsNoBoard, IsDamaged, IsOfOtherTime, IsOfOtherOwn};
 ghost use Rattle.daa_numbers.specs.Boards.{IsJoinedTo, IsOneDamaged};
 ghost use Rattle.daa_numbers.specs.Boards.{AreOfTwoTimes, AreOfTwoOwns};
@@ -186,6 +187,33 @@ pub extern "C" fn daa_recovery(
         → IsCodeOf (refusal_of config.now own.now traffic.now) result }
 {
     daa_numbers::recovery(config, own, traffic, kind, out)
+}
+
+/// Fills in the recovery on a side of a kind in a moment: the soonest of the candidates on that
+/// side of the present value, where the sides are those of `daa_resolution`. Returns 0, or the code
+/// of why nothing was filled in.
+#[unsafe(no_mangle)]
+pub extern "C" fn daa_recovery_side(
+    config: &DaaConfig,
+    own: &Own,
+    traffic: &[DaaTraffic],
+    kind: i32,
+    side: i32,
+    out: &mut DaaRecovery,
+) -> i32
+    ensures filled { result ≡ pos 0 → IsSideRecoveryUnder
+        config.now (picture_of 0 own.now traffic.now) kind side out.new }
+    ensures kept { result ≢ pos 0 → out.new ≡ out.old }
+    ensures no_kind { result ≡ pos 23
+        → HasNoKind (refusal_of config.now own.now traffic.now) kind }
+    ensures no_side { result ≡ pos 24
+        → HasNoSide (refusal_of config.now own.now traffic.now) kind side }
+    ensures not_asked { result ≡ pos 26 → HasSideBut
+        (refusal_of config.now own.now traffic.now) kind side (HasNoRecovery config.now) }
+    ensures refused { result ≢ pos 0 → result ≢ pos 23 → result ≢ pos 24 → result ≢ pos 26
+        → IsCodeOf (refusal_of config.now own.now traffic.now) result }
+{
+    daa_numbers::recovery_side(config, own, traffic, kind, side, out)
 }
 
 /// Fills in the last time of a kind in a moment, whether or not the present flight is open. Returns

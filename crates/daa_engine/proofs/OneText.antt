@@ -1,5 +1,5 @@
 -- A picture has no two texts, and no two boards.
-use Rattle.std.proofs.Common.{◌≡◌, ◌≤◌, ◌++◌, ◌∙◌, ℕ, List, [], ◌∷◌, length, sym, ap, ap₂, subst, ⊎_elim, Bool, true, false, Option, option_map}
+use Rattle.std.proofs.Common.{◌≡◌, ◌≤◌, ◌++◌, ◌∙◌, ℕ, List, [], ◌∷◌, length, sym, ap, ap₂, subst, ⊎_elim, Bool, true, false, Option, None, option_map}
 use Rattle.std.specs.Prelude.{codes, is_some}
 use Rattle.std.specs.List.{flat_map}
 use Rattle.std.proofs.lemmas.Bool.{cases_lt}
@@ -57,7 +57,7 @@ module _ (s : Settings) (p : Picture) where
 
   recovery_line_only : IsAccepted s → (kind : Kind) (a b : Text) → IsRecoveryText s p true Nothing Nothing kind a → IsRecoveryText s p true Nothing Nothing kind b → a ≡ b
   recovery_line_only ok kind a b (found, is, e) (found', is', e') =
-      e ∙ ap (λ (f : Option Recovery). recover_line kind (option_map found_of f)) (recovery_only s p kind ok found found' is is') ∙ sym e'
+      e ∙ ap (λ (f : Option Recovery). recover_line kind (option_map found_of f)) (recovery_only None s p kind ok found found' is is') ∙ sym e'
 
   -- with the same answers a kind has one text of its recovery
   recovery_text_only : IsAccepted s → (asked : Bool) (lower upper : Resolution) (kind : Kind) (a b : Text)

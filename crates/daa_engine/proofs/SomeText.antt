@@ -101,7 +101,7 @@ module _ (s : Settings) (p : Picture) (a : IsAccepted s) (r : IsPictureInRange p
   recovery_texts true e Nothing Keep kind = ([], refl)
   recovery_texts true e Nothing (To v) kind = ([], refl)
   recovery_texts true e Nothing Nothing kind =
-      let f = one_recovery s a p kind r (there s.recovery e) in (recover_line kind (option_map found_of f.one), (f.one, f.is, refl))
+      let f = one_recovery s a None p kind r (there s.recovery e) in (recover_line kind (option_map found_of f.one), (f.one, f.is, refl))
 
   some_text : (text : Text) × IsMomentText s p text
   some_text =

@@ -10,7 +10,7 @@ use Rattle.daa_config.specs.declared.kind.Kind.{Kind}
 use Rattle.daa_engine.specs.Covered.{CoveredAt}
 use Rattle.daa_engine.specs.MomentText.{IsMomentText}
 use Rattle.daa_last.specs.Last.{IsLastTime}
-use Rattle.daa_recovery.specs.Recovery.{IsRecovery}
+use Rattle.daa_recovery.specs.Recovery.{IsRecovery, IsSideRecovery}
 use Rattle.daa_recovery.specs.declared.recovery.Recovery.{Recovery}
 use Rattle.daa_resolve.specs.Resolution.{IsResolution}
 use Rattle.daa_resolve.specs.declared.side.Side.{Side}
@@ -58,7 +58,7 @@ pub record HasKindBut (refusal : Option Refusal) (number : ℤ) (Wrong : Type 0)
   pub kind_is : kind_number kind ≡ number
   pub wrong : Wrong
 
--- nothing else is refused, and the numbers stand for a kind and a side, but something is wrong with the board
+-- nothing else is refused, and the numbers stand for a kind and a side, but something is wrong with the board, or is not asked for
 pub record HasSideBut (refusal : Option Refusal) (kind_given side_given : ℤ) (Wrong : Type 0) : Type 0 where
   pub sound : refusal ≡ None
   pub kind : Kind
@@ -167,6 +167,25 @@ module _ (config : DaaConfig) where
     pub answer : Option Recovery
     pub is : IsRecovery settings picture kind answer
     pub filled : out ≡ recovery_by answer
+
+  -- the recovery on the side of the kind with these numbers
+  pub record IsSideRecoveryUnder (picture : Picture) (kind_given side_given : ℤ) (out : DaaRecovery) : Type 0 where
+    pub settings : Settings
+    pub accepted : settings_by config ≡ Ok settings
+    pub taken : IsTaken picture
+    pub kind : Kind
+    pub kind_is : kind_number kind ≡ kind_given
+    pub side : Side
+    pub side_is : side_number side ≡ side_given
+    pub answer : Option Recovery
+    pub is : IsSideRecovery side settings picture kind answer
+    pub filled : out ≡ recovery_by answer
+
+  -- it is accepted, and asks for no recovery
+  pub record HasNoRecovery : Type 0 where
+    pub settings : Settings
+    pub accepted : settings_by config ≡ Ok settings
+    pub none : settings.recovery ≡ None
 
   -- nothing else is refused, and it asks for no recovery
   pub record AsksForNone (refusal : Option Refusal) (number : ℤ) : Type 0 where

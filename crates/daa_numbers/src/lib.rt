@@ -40,7 +40,7 @@ pub use joining::join;
 pub use last_times::{DaaLast, last};
 pub use laws::a_joined_board_is_of_all_aircraft;
 pub use lines::{DaaLines, line};
-pub use recovering::{DaaRecovery, recovery};
+pub use recovering::{DaaRecovery, recovery, recovery_side};
 pub use reporting::report;
 pub use resolving::{DaaResolution, resolution};
 pub use setting::{DaaConfig, check, read};

@@ -9,4 +9,5 @@ pub mod Searching
 pub mod SomeRecovery
 mod Places
 pub mod OneRecovery
+pub mod EitherSide
 pub mod Cylinders

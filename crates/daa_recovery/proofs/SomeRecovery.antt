@@ -26,14 +26,17 @@ use Rattle.daa_legs.specs.Runs.{MeetsBetween}
 use Rattle.daa_legs.proofs.AtLevel.{one_level, looked, nothing, level_at}
 use Rattle.daa_meet.proofs.TrialLemmas.{le_is}
 use Rattle.daa_meet.proofs.Meetings.{within_decided, between_decided}
+use Rattle.daa_resolve.specs.Side.{present_of}
+use Rattle.daa_resolve.specs.declared.side.Side.{Side}
+use Rattle.daa_resolve.proofs.SomeResolution.{side_decided}
 use Rattle.daa_recovery.specs.OutlookState.{Closes, IsHorizon, OutlookState}
 use Rattle.daa_recovery.specs.Inside.OutlookState.{IsOutlook}
-use Rattle.daa_recovery.specs.Recovery.{IsClosedFrom, IsClear, Recovers, IsFound, IsRecovery}
+use Rattle.daa_recovery.specs.Recovery.{IsAmong, IsClosedFrom, IsClear, Recovers, IsFound, IsRecoveryAmong}
 use Rattle.daa_recovery.specs.Inside.Search.{bound_for, IsFoundBelow, IsLeastTime}
 use Rattle.daa_recovery.specs.declared.recovery.Recovery.{Recovery}
 use Rattle.daa_recovery.proofs.Horizons.{IsHorizonUpTo, horizon_first, horizon_more, horizon_all, horizon_short, level_within}
 use Rattle.daa_recovery.proofs.ClosingLevels.{closed_at}
-use Rattle.daa_recovery.proofs.Searching.{found_first, found_kept, found_sooner, found_all}
+use Rattle.daa_recovery.proofs.Searching.{found_first, found_beside, found_kept, found_sooner, found_all}
 use Rattle.daa_recovery.proofs.OneRecovery.{recovery_only}
 
 pub at_place : {X : Type 0} (P : X → Type 0) (xs : List X) (i : ℕ) (x : X) → All P xs → slice_get xs i ≡ Some x → P x
@@ -150,29 +153,40 @@ module _ (p : OutlookState) (is : IsOutlook p) (candidate : Candidate) (c : IsCa
 
 -- ---- the recovery
 
-module _ (p : OutlookState) (is : IsOutlook p) (kind : Kind) where
-  some_below : (count : ℕ) → count ≤ length (values_of kind p.settings) → (found : Option Recovery) × IsFoundBelow p kind count found
-  some_below zero h = (None, found_first p kind)
+among_decided : (side : Option Side) (kind : Kind) (now value : ℤ) → IsDecidable (IsAmong side kind now value)
+among_decided None kind now value = inl tt
+among_decided (Some side) kind now value = side_decided kind side now value
+
+module _ (p : OutlookState) (is : IsOutlook p) (kind : Kind) (side : Option Side) where
+  some_below : (count : ℕ) → count ≤ length (values_of kind p.settings) → (found : Option Recovery) × IsFoundBelow p kind side count found
+  some_below zero h = (None, found_first p kind side)
   some_below (suc n) h =
       let b = some_below n (omega (arith, h)) in
       let z : ℤ = (grid_of kind p.settings).min +ℤ pos n *ℤ (grid_of kind p.settings).step in
       let v = value_there kind p.settings n is.accepted (omega (arith, h)) in
       let t = least_time p is (candidate_to kind z) (in_range-to kind z v.in_range) (bound_for p kind b.0 z) in
-      go z v.there b.0 b.1 t.0 t.1
+      by_side z v.there b.0 b.1 (among_decided side kind (present_of kind p.picture.own) z) t.0 t.1
     where
       one_more : n + 1 ≡ suc n
       one_more = omega arith
 
-      go : (z : ℤ) → slice_get (values_of kind p.settings) n ≡ Some z → (found : Option Recovery) → IsFoundBelow p kind n found
-          → (t : Option ℕ) → IsLeastTime p (candidate_to kind z) (bound_for p kind found z) t → (new : Option Recovery) × IsFoundBelow p kind (suc n) new
-      go z there found b None none = (found, subst (λ (i : ℕ). IsFoundBelow p kind i found) one_more (found_kept p kind n z there found b none))
-      go z there found b (Some after) l = (
+      go : (z : ℤ) → slice_get (values_of kind p.settings) n ≡ Some z → (found : Option Recovery) → IsFoundBelow p kind side n found
+          → IsAmong side kind (present_of kind p.picture.own) z
+          → (t : Option ℕ) → IsLeastTime p (candidate_to kind z) (bound_for p kind found z) t → (new : Option Recovery) × IsFoundBelow p kind side (suc n) new
+      go z there found b among None none = (found, subst (λ (i : ℕ). IsFoundBelow p kind side i found) one_more (found_kept p kind side n z there found b none))
+      go z there found b among (Some after) l = (
         Some (record { after = after; value = z }),
-        subst (λ (i : ℕ). IsFoundBelow p kind i (Some (record { after = after; value = z }))) one_more (found_sooner p kind n z there found after b l),
+        subst (λ (i : ℕ). IsFoundBelow p kind side i (Some (record { after = after; value = z }))) one_more (found_sooner p kind side n z there found after b among l),
       )
 
-  pub some_found : (found : Option Recovery) × IsFound p kind found
-  some_found = let b = some_below (length (values_of kind p.settings)) (omega arith) in (b.0, found_all p kind _ b.0 (omega arith) b.1)
+      by_side : (z : ℤ) → slice_get (values_of kind p.settings) n ≡ Some z → (found : Option Recovery) → IsFoundBelow p kind side n found
+          → IsDecidable (IsAmong side kind (present_of kind p.picture.own) z)
+          → (t : Option ℕ) → IsLeastTime p (candidate_to kind z) (bound_for p kind found z) t → (new : Option Recovery) × IsFoundBelow p kind side (suc n) new
+      by_side z there found b (inl among) t l = go z there found b among t l
+      by_side z there found b (inr none) t l = (found, subst (λ (i : ℕ). IsFoundBelow p kind side i found) one_more (found_beside p kind side n z there found b none))
+
+  pub some_found : (found : Option Recovery) × IsFound p kind side found
+  some_found = let b = some_below (length (values_of kind p.settings)) (omega arith) in (b.0, found_all p kind side _ b.0 (omega arith) b.1)
 
 module _ (s : Settings) (a : IsAccepted s) where
   level_there : (l : ℕ) → 1 ≤ l → l ≤ length s.levels → (level : Level) × IsLevelAt s l level
@@ -220,14 +234,14 @@ module _ (s : Settings) (a : IsAccepted s) where
       let b = horizon_up_to (length s.levels - first) (omega (arith, few)) in
       (b.0, horizon_all s _ b.0 (omega (arith, few)) b.1)
 
-  pub one_recovery : (picture : Picture) (kind : Kind) → IsPictureInRange picture → s.recovery ≢ None → HasOne (IsRecovery s picture kind)
-  one_recovery picture kind in' asked = go (looked s.recovery)
+  pub one_recovery : (side : Option Side) (picture : Picture) (kind : Kind) → IsPictureInRange picture → s.recovery ≢ None → HasOne (IsRecoveryAmong side s picture kind)
+  one_recovery side picture kind in' asked = go (looked s.recovery)
     where
-      go : ((v : Volume) × (s.recovery ≡ Some v)) ⊎ (s.recovery ≡ None) → HasOne (IsRecovery s picture kind)
+      go : ((v : Volume) × (s.recovery ≡ Some v)) ⊎ (s.recovery ≡ None) → HasOne (IsRecoveryAmong side s picture kind)
       go (inl (v, e)) =
           let m = some_horizon in
           let p : OutlookState = record { settings = s; picture = picture; cylinder = v; horizon = m.0 } in
-          let f = some_found p (record { accepted = a; picture = in'; cylinder = (a.recovery v e).in_range; horizon = m.1 }) kind in
-          let is : IsRecovery s picture kind f.0 = record { cylinder = v; horizon = m.0; asked = e; ahead = m.1; found = f.1 } in
-          record { one = f.0; is = is; only = λ other h. recovery_only s picture kind a other f.0 h is }
+          let f = some_found p (record { accepted = a; picture = in'; cylinder = (a.recovery v e).in_range; horizon = m.1 }) kind side in
+          let is : IsRecoveryAmong side s picture kind f.0 = record { cylinder = v; horizon = m.0; asked = e; ahead = m.1; found = f.1 } in
+          record { one = f.0; is = is; only = λ other h. recovery_only side s picture kind a other f.0 h is }
       go (inr none) = absurd (asked none)

@@ -1,7 +1,7 @@
 //! Laws of the definitions, each the contract of a function that does nothing.
 
 ghost use Rattle.std.specs.Prelude.{◌≡◌, ◌≢◌, ◌≤◌, ◌↔◌, ℕ, ℤ, pos, ◌≤ℤ◌};
-ghost use Rattle.std.specs.Prelude.{◌*ℤ◌, None, unsigned_abs, false};
+ghost use Rattle.std.specs.Prelude.{◌*ℤ◌, Option, Some, None, unsigned_abs, false};
 ghost use Rattle.daa_fixed.specs.declared.Leg.{Leg};
 ghost use Rattle.daa_fixed.specs.Flat.{dot_of, square_of};
 ghost use Rattle.daa_taumod.specs.declared.Model.{Model};
@@ -13,8 +13,10 @@ ghost use Rattle.daa_fixed.specs.One.{HasOne};
 ghost use Rattle.daa_config.specs.Settings.{Settings, IsAccepted};
 ghost use Rattle.daa_state.specs.declared.word.Picture.{Picture};
 ghost use Rattle.daa_state.specs.InRange.{IsPictureInRange};
+ghost use Rattle.daa_resolve.specs.declared.side.Side.{Side};
 ghost use Rattle.daa_recovery.specs.OutlookState.{OutlookState};
-ghost use Rattle.daa_recovery.specs.Recovery.{Recovers, RecoversAt, IsLeast, IsRecovery};
+ghost use Rattle.daa_recovery.specs.Recovery.{Recovers, RecoversAt, IsLeast};
+ghost use Rattle.daa_recovery.specs.Recovery.{IsRecovery, IsSideRecovery};
 ghost use Rattle.daa_recovery.specs.declared.recovery.Recovery.{Recovery};
 
 /// Under an accepted configuration that asks for it, a kind has exactly one recovery.
@@ -25,12 +27,34 @@ pub fn has_one_recovery()
         → HasOne (IsRecovery settings p kind) }
 {}
 
+/// Under an accepted configuration that asks for recoveries, each side of a kind has exactly one.
+pub fn has_one_recovery_on_each_side()
+    ensures { (side : Side) (settings : Settings) (p : Picture) (kind : Kind)
+        → IsAccepted settings
+        → IsPictureInRange p
+        → settings.recovery ≢ None
+        → HasOne (IsSideRecovery side settings p kind) }
+{}
+
+/// The recovery of a kind, the soonest of all, is that of one of its sides; if there is none,
+/// neither side has one.
+pub fn the_recovery_of_a_kind_is_that_of_a_side()
+    ensures some { (settings : Settings) (p : Picture) (kind : Kind) (r : Recovery)
+        → IsRecovery settings p kind (Some r)
+        → (side : Side) × IsSideRecovery side settings p kind (Some r) }
+    ensures none { (settings : Settings) (p : Picture) (kind : Kind)
+        → IsRecovery settings p kind None
+        → (side : Side) → IsSideRecovery side settings p kind None }
+{}
+
 /// If the configuration does not ask for the nearest value, the recovery names the least of the
 /// values that recover soonest.
 pub fn without_nearest_the_least_value_is_named()
-    ensures { (p : OutlookState) (kind : Kind) (r : Recovery) → p.settings.nearest ≡ false
-        → IsLeast p kind r
-        → (index : ℕ) (value : ℤ) → RecoversAt p kind index r.after value → r.value ≤ℤ value }
+    ensures { (p : OutlookState) (kind : Kind) (side : Option Side) (r : Recovery)
+        → p.settings.nearest ≡ false
+        → IsLeast p kind side r
+        → (index : ℕ) (value : ℤ) → RecoversAt p kind side index r.after value
+        → r.value ≤ℤ value }
 {}
 
 /// What recovers at a second recovers at each later one.

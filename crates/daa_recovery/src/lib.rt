@@ -12,8 +12,9 @@ mod side;
 mod walk;
 
 pub use laws::{
-    has_one_recovery, recovering_lasts, the_cylinder_is_what_is_near,
+    has_one_recovery, has_one_recovery_on_each_side, recovering_lasts,
+    the_cylinder_is_what_is_near, the_recovery_of_a_kind_is_that_of_a_side,
     without_nearest_the_least_value_is_named,
 };
 pub use outlook::{candidate_going_to, horizon_of};
-pub use recovery::{Recovery, least};
+pub use recovery::{Recovery, least, least_on};

@@ -1,6 +1,6 @@
 //! A configuration with a moment and the cylinder: which candidates recover, and when.
 
-ghost use Rattle.std.specs.Prelude.{◌≡◌, ◌<◌, ◌+◌, ℤ, int_lt};
+ghost use Rattle.std.specs.Prelude.{◌≡◌, ◌<◌, ◌+◌, ◌↔◌, ℤ, int_lt, IsTrue};
 ghost use Rattle.std.specs.Prelude.{Some, length, slice_get};
 ghost use Rattle.daa_config.specs.Candidates.{values_of, candidate_to as to_value};
 ghost use Rattle.daa_config.specs.Settings.{IsAccepted, IsCandidateInRange};
@@ -8,7 +8,8 @@ ghost use Rattle.daa_legs.specs.Branch.{lead_of};
 ghost use Rattle.daa_state.specs.InRange.{IsPictureInRange, IsTrafficInRange};
 ghost use Rattle.daa_state.specs.Picture.{aircraft_of};
 ghost use Rattle.daa_recovery.specs.OutlookState.{IsHorizon};
-ghost use Rattle.daa_recovery.specs.Recovery.{IsFound};
+ghost use Rattle.daa_resolve.specs.Side.{present_of};
+ghost use Rattle.daa_recovery.specs.Recovery.{IsAmong, IsFound};
 ghost use Rattle.daa_recovery.specs.Inside.Search.{IsFoundBelow, placed};
 ghost use Rattle.daa_recovery.specs.Inside.Search.{IsBeforeHorizon, bound_for, IsLeastTime};
 ghost use Rattle.daa_recovery.specs.Inside.Sides.{IsSide, AreSides};
@@ -18,7 +19,7 @@ use crate::recovery::Recovery;
 use crate::side::{PLACES, Side, Sides, lead_to};
 use daa_config::{Candidate, Config, Kind};
 use daa_legs::{Trunk, branch_of};
-use daa_resolve::present;
+use daa_resolve::{is_on_side, present};
 use daa_state::{Picture, Traffic};
 use daa_taumod::Volume;
 use std::marker::Model;
@@ -76,15 +77,15 @@ impl<'a> Outlook<'a> {
         }
     }
 
-    /// The least time after which a candidate of the kind recovers, and the first of the values
-    /// that recover then, in the order that the configuration asks for.
-    pub(crate) fn least(&self, kind: Kind) -> Option<Recovery>
-        ensures { IsFound self.now kind result }
+    /// The least time after which a candidate of the kind recovers, of all or of those on a side,
+    /// and the first of the values that recover then, in the order that the configuration asks for.
+    pub(crate) fn least(&self, kind: Kind, side: Option<daa_resolve::Side>) -> Option<Recovery>
+        ensures { IsFound self.now kind side result }
     {
         let mut sides = self.sides_of(kind);
         let mut found = None;
         for index in 0..self.config.count(kind) {
-            found = self.try_value(kind, index, found, &mut sides);
+            found = self.try_value(kind, side, index, found, &mut sides);
         }
         found
     }
@@ -123,22 +124,37 @@ impl<'a> Outlook<'a> {
     fn try_value(
         &self,
         kind: Kind,
+        side: Option<daa_resolve::Side>,
         index: u32,
         found: Option<Recovery>,
         sides: &mut Sides,
     ) -> Option<Recovery>
         requires index { index < length (values_of kind self.now.settings) }
-        requires found { IsFoundBelow self.now kind index found }
+        requires found { IsFoundBelow self.now kind side index found }
         requires sides { AreSides self.now kind sides.old }
-        ensures found { IsFoundBelow self.now kind (index + 1) result }
+        ensures found { IsFoundBelow self.now kind side (index + 1) result }
         ensures sides { AreSides self.now kind sides.new }
     {
         let value = self.config.value(kind, index);
+        if !self.is_among(kind, side, &value) {
+            return found;
+        }
         let candidate = candidate_going_to(kind, &value);
         let bound = self.bound(kind, &found, &value);
         match self.sooner_time(kind, candidate, bound, sides) {
             Some(after) => Some(Recovery { after, value }),
             None => found,
+        }
+    }
+
+    /// Whether the value is among those that are asked about: all, or those on a side.
+    fn is_among(&self, kind: Kind, side: Option<daa_resolve::Side>, value: &i32) -> bool
+        ensures { IsTrue result
+            ↔ IsAmong side kind (present_of kind self.now.picture.own) value.now }
+    {
+        match side {
+            None => true,
+            Some(side) => is_on_side(kind, side, &present(&self.picture.own, kind), value),
         }
     }
 

@@ -55,7 +55,7 @@ one_decided (suc (suc n)) = inr (λ e. omega arith)
 within_decided : (low high angle : ℤ) → IsDecidable ((low ≤ℤ angle) × (angle ≤ℤ high))
 within_decided low high angle = both_decided (low ≤ℤ angle) (angle ≤ℤ high) (at_most_decided low angle) (at_most_decided angle high)
 
-side_decided : (kind : Kind) (side : Side) (now value : ℤ) → IsDecidable (IsOnSide kind side now value)
+pub side_decided : (kind : Kind) (side : Side) (now value : ℤ) → IsDecidable (IsOnSide kind side now value)
 side_decided Track Upper now value = within_decided (pos 1) (pos 180) (distance_of Track Upper now value)
 side_decided Track Lower now value = within_decided (pos 0) (pos 179) (distance_of Track Lower now value)
 side_decided GroundSpeed Upper now value = below_decided now value

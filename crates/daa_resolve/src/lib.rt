@@ -10,4 +10,4 @@ mod side;
 
 pub use laws::{board_answers_for_what_is_covered, has_one_answer, worked_examples};
 pub use resolution::nearest;
-pub use side::{Side, present};
+pub use side::{Side, is_on_side, present};

@@ -83,8 +83,10 @@ fn is_beyond(side: Side, now: &i32, value: &i32) -> bool
     }
 }
 
-/// Whether a value is on a side of the present one.
-pub(crate) fn is_on_side(kind: Kind, side: Side, now: &i32, value: &i32) -> bool
+/// Whether a value is on a side of the present one, both in the kind's unit. A track is on the
+/// right if it is 1 to 180 degrees to the right, and on the left if it is 0 to 179 degrees to the
+/// left; on the other kinds a value is up if it is greater, and else down.
+pub fn is_on_side(kind: Kind, side: Side, now: &i32, value: &i32) -> bool
     ensures { IsTrue result ↔ IsOnSide kind side now.now value.now }
 {
     match kind {

@@ -426,6 +426,16 @@ impl Moment {
         Ok((to.found != 0).then_some(Recovery { after: to.after, value: to.value }))
     }
 
+    /// The soonest recovery among the values on a side of the present one, under a configuration that asks for recoveries.
+    pub fn recovery_side(&self, kind: Kind, side: Side) -> Result<Option<Recovery>, Refused> {
+        let (traffic, mut to) = (&self.traffic, raw::Recovery::default());
+        // SAFETY: as above.
+        done(unsafe {
+            raw::daa_recovery_side(&self.config, &self.own, traffic.as_ptr(), traffic.len(), kind as i32, side as i32, &mut to)
+        })?;
+        Ok((to.found != 0).then_some(Recovery { after: to.after, value: to.value }))
+    }
+
     /// The greatest number of seconds, below the greatest lookahead of the levels that close, for which the present flight may
     /// be kept so that some candidate of the kind that begins then is open, under a configuration that asks for last times;
     /// `None` where there is no such time.

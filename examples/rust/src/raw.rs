@@ -126,6 +126,7 @@ extern "C" {
     pub fn daa_bands(config: *const Config, time: u32, board: *const Board, kind: i32, bands: *mut crate::Band, room: usize, count: *mut usize) -> i32;
     pub fn daa_resolution(config: *const Config, time: u32, own: *const Own, board: *const Board, kind: i32, side: i32, out: *mut Resolution) -> i32;
     pub fn daa_recovery(config: *const Config, own: *const Own, traffic: *const Traffic, count: usize, kind: i32, out: *mut Recovery) -> i32;
+    pub fn daa_recovery_side(config: *const Config, own: *const Own, traffic: *const Traffic, count: usize, kind: i32, side: i32, out: *mut Recovery) -> i32;
     pub fn daa_last(config: *const Config, own: *const Own, traffic: *const Traffic, count: usize, kind: i32, out: *mut Last) -> i32;
     pub fn daa_report(config: *const Config, time: u32, own: *const Own, traffic: *const Traffic, count: usize, text: *mut u8, room: usize, length: *mut usize) -> i32;
     pub fn daa_closers(config: *const Config, own: *const Own, traffic: *const Traffic, count: usize, kind: i32, value: i32, least: u32, greatest: u32, places: *mut u64) -> i32;

@@ -1,6 +1,6 @@
 //! What the calls that the example does not make answer: a configuration from numbers, recoveries, last times, and levels.
 //! The answers are those that docs/GUIDE.md shows.
-use daidalus::{Config, Course, Grid, Kind, Level, Moment, Own, Place, Recovery, Refused, Seen, Traffic};
+use daidalus::{Config, Course, Grid, Kind, Level, Moment, Own, Place, Recovery, Refused, Seen, Side, Traffic};
 
 const CLOSED: &str = include_str!("../../closed.states");
 const ENCOUNTER: &str = include_str!("../../encounter.states");
@@ -78,9 +78,14 @@ fn recoveries_are_those_of_the_report() {
     let moment = decided(&from_numbers().with_recovery(82, 100, true).unwrap(), CLOSED, 0);
     let report = moment.report(0).unwrap();
     let wanted = [Some((18, 140)), None, Some((11, 4600)), Some((14, 9500))];
-    for ((kind, word), wanted) in KINDS.into_iter().zip(WORDS).zip(wanted) {
+    // as tools/reference finds them
+    let lower = [Some((23, 45)), None, Some((15, -4600)), Some((23, 8000))];
+    for (((kind, word), wanted), lower) in KINDS.into_iter().zip(WORDS).zip(wanted).zip(lower) {
         let found = moment.recovery(kind).unwrap();
         assert_eq!(found, wanted.map(|(after, value)| Recovery { after, value }));
+        // the ownship flies east at 9000 ft: 140 degrees, a climb and 9500 ft are on the upper side
+        assert_eq!(moment.recovery_side(kind, Side::Upper).unwrap(), found);
+        assert_eq!(moment.recovery_side(kind, Side::Lower).unwrap(), lower.map(|(after, value)| Recovery { after, value }));
         let told = found.map_or("none".into(), |it| format!("{} {}", it.after, it.value));
         assert!(report.contains(&format!("\nrecover {word} {told}\n")), "{report}");
     }

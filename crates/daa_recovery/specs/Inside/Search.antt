@@ -2,6 +2,7 @@
 use Rattle.std.specs.Prelude.{ℕ, ℤ, ◌≤◌, ◌<◌, ◌+◌, ◌≤ℤ◌, int_lt, if◌then◌else◌, Option, Some, None}
 use Rattle.daa_config.specs.declared.candidate.Candidate.{Candidate}
 use Rattle.daa_config.specs.declared.kind.Kind.{Kind}
+use Rattle.daa_resolve.specs.declared.side.Side.{Side}
 use Rattle.daa_recovery.specs.OutlookState.{OutlookState}
 use Rattle.daa_recovery.specs.Order.{place_of}
 use Rattle.daa_recovery.specs.Recovery.{Recovers, RecoversAt}
@@ -27,14 +28,15 @@ module _ (p : OutlookState) (kind : Kind) where
   bound_for None value = p.horizon
   bound_for (Some r) value = if int_lt (placed value) (placed r.value) then r.after + 1 else r.after
 
+module _ (p : OutlookState) (kind : Kind) (side : Option Side) where
   -- the value of this recovery is below count, recovers at its time, and comes before all others below count that do so
   pub record IsFirst (count : ℕ) (r : Recovery) : Type 0 where
     pub index : ℕ
     pub below : index < count
     pub some : 1 ≤ r.after
     pub before : r.after < p.horizon
-    pub recovers : RecoversAt p kind index r.after r.value
-    pub first : (i : ℕ) (value : ℤ) → i < count → RecoversAt p kind i r.after value → placed r.value ≤ℤ placed value
+    pub recovers : RecoversAt p kind side index r.after r.value
+    pub first : (i : ℕ) (value : ℤ) → i < count → RecoversAt p kind side i r.after value → placed p kind r.value ≤ℤ placed p kind value
 
   -- what was found, if anything, is the first value that recovers at its time
   abbrev pub IsFirstFound : (count : ℕ) → Option Recovery → Type 0
@@ -44,7 +46,7 @@ module _ (p : OutlookState) (kind : Kind) where
   -- of the first values none recovers sooner than what was found, or at all before the horizon
   pub record IsFoundBelow (count : ℕ) (found : Option Recovery) : Type 0 where
     pub first : IsFirstFound count found
-    pub none_sooner : (m : ℕ) → 1 ≤ m → m < bound_of p found → (i : ℕ) (value : ℤ) → i < count → ¬ RecoversAt p kind i m value
+    pub none_sooner : (m : ℕ) → 1 ≤ m → m < bound_of p found → (i : ℕ) (value : ℤ) → i < count → ¬ RecoversAt p kind side i m value
 
 -- the least time from 1 on below a bound at which the candidate recovers, or that there is none
 module _ (p : OutlookState) (candidate : Candidate) (bound : ℕ) where

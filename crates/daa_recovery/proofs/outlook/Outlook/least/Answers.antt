@@ -5,7 +5,7 @@ use Rattle.daa_recovery.proofs.Searching.{found_all}
 use Rattle.daa_recovery.proofs.outlook.Outlook.least.Goals as goal
 
 pub returns : goal.returns
-returns c = found_all c.args.self.now c.args.kind c.loop-index.index c.loop-index.found
+returns c = found_all c.args.self.now c.args.kind c.args.side c.loop-index.index c.loop-index.found
     (omega (
       arith,
       c.loop-index-test.false,
