@@ -1,5 +1,5 @@
 -- Where a delayed flight is, leg by leg.
-use Rattle.std.proofs.Common.{◌≡◌, ℕ, zero, suc, ◌+◌, ◌-◌, ◌<◌, ◌≤◌, ◌*◌, refl, ap, sym, subst, ◌∙◌, ⊎_elim, arith, ℤ, pos, neg_ℤ, ◌+ℤ◌, ◌-ℤ◌, ◌*ℤ◌, ◌≤ℤ◌, unsigned_abs, add-one}
+use Rattle.std.proofs.Common.{◌≡◌, ℕ, zero, suc, ◌+◌, ◌-◌, ◌<◌, ◌≤◌, ◌*◌, Bool, refl, ap, sym, subst, ◌∙◌, ⊎_elim, arith, ℤ, pos, neg_ℤ, ◌+ℤ◌, ◌-ℤ◌, ◌*ℤ◌, ◌≤ℤ◌, unsigned_abs, add-one}
 use Rattle.std.specs.Prelude.{if◌then◌else◌}
 use Rattle.std.specs.Int.{int_min}
 use Rattle.std.proofs.lemmas.Bool.{lt-ltb, le-ltb, cases_lt}
@@ -15,14 +15,17 @@ use Rattle.daa_config.specs.declared.candidate.Candidate.TheVariants.{Hold, Trac
 use Rattle.daa_config.specs.Settings.{AreRatesInRange, IsCandidateInRange}
 use Rattle.daa_state.specs.declared.word.Own.{Own}
 use Rattle.daa_state.specs.InRange.{IsOwnInRange}
+use Rattle.daa_legs.specs.declared.own_leg.OwnLeg.{OwnLeg}
+use Rattle.daa_legs.specs.Branch.{lead_of, FliesAs}
 use Rattle.daa_legs.specs.Motion.{vertical_speed_on, velocity_on}
 use Rattle.daa_legs.specs.OwnLeg.{own_place, place_on, own_leg, IsOwnLegInRange}
 use Rattle.daa_legs.proofs.StateRanges.{own_x, own_y, own_altitude}
 use Rattle.daa_legs.proofs.CandidateCases.{next_product, product_nonneg, vertical_speed_on-within}
 use Rattle.daa_legs.proofs.ClosedForms.{next_toward, hold-velocity}
-use Rattle.daa_legs.proofs.Places.{IsSolidWithin, sum_below-within, velocity_on-within}
+use Rattle.daa_legs.proofs.Places.{IsSolidWithin, place-next, sum_below-within, velocity_on-within}
 use Rattle.daa_last.specs.Delayed.{height_since, vertical_speed_since, velocity_since, velocity_delayed, place_delayed, leg_delayed}
-use Rattle.daa_last.specs.Inside.Rising.{velocity_from}
+use Rattle.daa_last.specs.Inside.Rests.{velocity_from, IsMovedAlone}
+use Rattle.daa_last.specs.Inside.Sides.{moved}
 
 none_toward : (x y r : ℤ) → toward_of x y (pos 0 *ℤ r) ≡ x
 none_toward x y r =
@@ -173,6 +176,109 @@ module _ (own : Own) (rates : Rates) (m : ℕ) where
       place = delayed_place-below k short;
       velocity = record { east = omega (arith, w.east); north = omega (arith, w.north); up = omega (arith, w.up) };
     }
+
+-- ---- begun later, every flight but one to an altitude is moved alone
+module _ (own : Own) (rates : Rates) (m : ℕ) where
+  pub moved_alone : (candidate : Candidate) → ((a : ℤ) → candidate ≡ Altitude a → ⊥) → IsMovedAlone own rates m candidate
+  unfolding velocity_since vertical_speed_since velocity_on vertical_speed_on
+  moved_alone Hold h j = refl
+  moved_alone (Track c) h j = refl
+  moved_alone (GroundSpeed g) h j = refl
+  moved_alone (VerticalSpeed w) h j = refl
+  moved_alone (Altitude a) h j = absurd (h a refl)
+
+  pub lead_moved_alone : (candidate : Candidate) (upper : Bool) → ((a : ℤ) → candidate ≡ Altitude a → ⊥) → IsMovedAlone own rates m (lead_of own candidate upper)
+  unfolding velocity_since vertical_speed_since velocity_on vertical_speed_on lead_of
+  lead_moved_alone Hold upper h j = refl
+  lead_moved_alone (Track c) upper h j = refl
+  lead_moved_alone (GroundSpeed g) upper h j = refl
+  lead_moved_alone (VerticalSpeed w) upper h j = refl
+  lead_moved_alone (Altitude a) upper h j = absurd (h a refl)
+
+module _ (own : Own) (rates : Rates) (m : ℕ) (candidate : Candidate) (alone : IsMovedAlone own rates m candidate) where
+  pub moved_velocity : (j : ℕ) → velocity_delayed own rates m candidate (m + j) ≡ velocity_on own rates candidate j
+  moved_velocity j =
+      let back : m + j - m ≡ j = omega arith in
+      begun own rates m candidate (m + j) (omega arith) ∙ ap (λ (i : ℕ). velocity_since own rates m candidate i) back ∙ alone j
+
+  begins_here : place_on own rates candidate 0 ≡ own_place own
+  unfolding place_on
+  begins_here = λ i. record {
+    flat = record { east = none (pos 36 *ℤ own.x) i; north = none (pos 36 *ℤ own.y) i };
+    up = none (pos 60 *ℤ own.alt) i;
+  }
+    where
+      none : (x : ℤ) → x +ℤ pos 0 ≡ x
+      none x = omega (arith, ints)
+
+  pub moved_place : (j : ℕ) → place_delayed own rates m candidate (m + j) ≡ moved (place_on own rates candidate j) (place_on own rates Hold m) (own_place own)
+  unfolding moved
+  moved_place zero =
+      let none : m + 0 ≡ m = omega arith in
+      let start : Solid = place_on own rates Hold m in
+      ap (place_delayed own rates m candidate) none
+      ∙ held_place own rates m candidate m (omega arith)
+      ∙ (λ i. record {
+        flat = record { east = away (pos 36 *ℤ own.x) start.flat.east i; north = away (pos 36 *ℤ own.y) start.flat.north i };
+        up = away (pos 60 *ℤ own.alt) start.up i;
+      })
+      ∙ ap (λ (x : Solid). moved x start (own_place own)) (sym begins_here)
+    where
+      away : (x s : ℤ) → s ≡ (x +ℤ s) -ℤ x
+      away x s = omega (arith, ints)
+  moved_place (suc j) =
+      let one : m + suc j ≡ m + j + 1 = omega arith in
+      let next : j + 1 ≡ suc j = omega arith in
+      let start : Solid = place_on own rates Hold m in
+      let here : Solid = own_place own in
+      let p : Solid = place_on own rates candidate j in
+      let v : Solid = velocity_on own rates candidate j in
+      let before = moved_place j in
+      let speed = moved_velocity j in
+      ap (place_delayed own rates m candidate) one
+      ∙ sym (next_place own rates m candidate (m + j))
+      ∙ (λ i. plus (before i) (speed i))
+      ∙ (λ i. record {
+        flat = record {
+          east = later p.flat.east v.flat.east start.flat.east here.flat.east i;
+          north = later p.flat.north v.flat.north start.flat.north here.flat.north i;
+        };
+        up = later p.up v.up start.up here.up i;
+      })
+      ∙ ap (λ (x : Solid). moved x start here) (place-next own rates candidate j)
+      ∙ ap (λ (n : ℕ). moved (place_on own rates candidate n) start here) next
+    where
+      later : (p v s h : ℤ) → ((p +ℤ s) -ℤ h) +ℤ v ≡ ((p +ℤ v) +ℤ s) -ℤ h
+      later p v s h = omega (arith, ints)
+
+  -- its leg, from the leg of the flight that is begun now
+  pub moved_leg_is : (j : ℕ) (leg : OwnLeg) (start here : Solid) → leg ≡ own_leg own rates candidate j → start ≡ place_on own rates Hold m → here ≡ own_place own
+      → record { place = moved leg.place start here; velocity = leg.velocity } ≡ leg_delayed own rates m candidate (m + j)
+  moved_leg_is j leg start here l s h =
+      let p = moved_place j in
+      let v = moved_velocity j in
+      (λ i. record { place = moved (l i).place (s i) (h i); velocity = (l i).velocity })
+      ∙ (λ i. record { place = sym p i; velocity = sym v i })
+
+  pub begins_own : (leg : OwnLeg) → leg ≡ own_leg own rates candidate 0 → leg.place ≡ own_place own
+  begins_own leg l = ap (λ (x : OwnLeg). x.place) l ∙ begins_here
+
+-- ---- where a candidate flies as another
+module _ (own : Own) (rates : Rates) (m : ℕ) (candidate lead : Candidate) (x : IsMovedAlone own rates m candidate) (y : IsMovedAlone own rates m lead)
+    (n : ℕ) (alike : FliesAs own rates candidate lead n) where
+  velocity_alike : (k : ℕ) → k < m + n → velocity_delayed own rates m candidate k ≡ velocity_delayed own rates m lead k
+  velocity_alike k lt = ⊎_elim
+      (λ before. held own rates m candidate k before ∙ sym (held own rates m lead k before))
+      (λ le. begun own rates m candidate k le ∙ x (k - m) ∙ alike.same (k - m) (omega (arith, le, lt)) ∙ sym (y (k - m)) ∙ sym (begun own rates m lead k le))
+      (cases_lt k m)
+
+  pub delayed_place_alike : (k : ℕ) → k ≤ m + n → place_delayed own rates m candidate k ≡ place_delayed own rates m lead k
+  unfolding place_delayed
+  delayed_place_alike k le = ap (λ (s : Solid). plus (own_place own) s)
+      (same_sum (velocity_delayed own rates m candidate) (velocity_delayed own rates m lead) k (λ j lt. velocity_alike j (omega (arith, lt, le))))
+
+  pub delayed_leg_alike : (k : ℕ) → k < m + n → leg_delayed own rates m candidate k ≡ leg_delayed own rates m lead k
+  delayed_leg_alike k lt = let p = delayed_place_alike k (omega (arith, lt)) in let v = velocity_alike k lt in λ i. record { place = p i; velocity = v i }
 
 -- ---- delayed by 0 seconds
 module _ (own : Own) (rates : Rates) where

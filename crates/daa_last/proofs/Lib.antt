@@ -1,4 +1,8 @@
 pub mod Delays
+mod LateRuns
+mod Climbs
+mod Rests
+mod Sides
 mod Walking
 mod Starting
 pub mod Searching

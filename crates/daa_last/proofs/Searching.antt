@@ -4,64 +4,60 @@ use Rattle.std.specs.Prelude.{MatchOption, slice_get}
 use Rattle.std.proofs.lemmas.Bool.{cases_lt}
 use Rattle.std.proofs.lemmas.Int.{ints}
 use Rattle.std.proofs.lemmas.Option.{same_Some, slice_get_within}
-use Rattle.daa_config.specs.declared.candidate.Candidate.{Candidate}
 use Rattle.daa_config.specs.declared.kind.Kind.{Kind}
 use Rattle.daa_config.specs.declared.level.Level.{Level}
 use Rattle.daa_config.specs.Candidates.{values_of, candidate_to}
 use Rattle.daa_config.specs.Settings.{Settings, IsLevelAt}
-use Rattle.daa_state.specs.declared.word.Own.{Own}
 use Rattle.daa_state.specs.declared.word.Picture.{Picture}
 use Rattle.daa_state.specs.declared.word.Traffic.{Traffic}
 use Rattle.daa_state.specs.Picture.{aircraft_of}
 use Rattle.daa_legs.proofs.AtLevel.{one_level}
 use Rattle.daa_recovery.specs.OutlookState.{Closes, IsHorizon}
 use Rattle.daa_recovery.proofs.Horizons.{level_within, horizon_only}
-use Rattle.daa_last.specs.Last.{IsClosedDelayed, IsOpenDelayed, IsSomeOpen, IsLast, IsLastTime}
+use Rattle.daa_last.specs.Last.{IsOpenDelayed, IsSomeOpen, IsLast, IsLastTime}
 use Rattle.daa_last.specs.Inside.Starts.{IsHeldOpenOfAll, IsHeldClosedOfSome, AreStarts}
-use Rattle.daa_last.specs.Inside.Search.{MeetsLate, IsClosedLate}
 use Rattle.daa_last.proofs.Openness.{closed_by_hold}
 
 -- ---- level by level
-module _ (settings : Settings) (own : Own) (candidate : Candidate) (m : ℕ) (aircraft : Traffic) where
-  -- none of the levels below l that close is violated
-  abbrev pub AreOpenBelow : ℕ → Type 0
-  AreOpenBelow l = (j : ℕ) (level : Level) → j < l → Closes settings j level → ¬ MeetsLate settings own candidate m aircraft level.volume level.lookahead
+module _ (settings : Settings) where
+  -- this holds of none of the levels below l that close
+  abbrev pub IsNoLevelBelow : (Level → Type 0) → ℕ → Type 0
+  IsNoLevelBelow Meets l = (j : ℕ) (level : Level) → j < l → Closes settings j level → ¬ Meets level
 
-  pub open_first : (l : ℕ) → pos l ≡ settings.numbers.resolve → AreOpenBelow l
-  open_first l e j level lt closes = let f = closes.from in absurd (omega (arith, ints, e, f, lt))
+  module _ (Meets : Level → Type 0) where
+    pub no_level_first : (l : ℕ) → pos l ≡ settings.numbers.resolve → IsNoLevelBelow Meets l
+    no_level_first l e j level lt closes = let f = closes.from in absurd (omega (arith, ints, e, f, lt))
 
-  pub open_more : (l : ℕ) (level : Level) → IsLevelAt settings l level → ¬ MeetsLate settings own candidate m aircraft level.volume level.lookahead
-      → AreOpenBelow l → AreOpenBelow (l + 1)
-  open_more l level at none h j other lt closes = ⊎_elim
-      (λ before. h j other before closes)
-      (λ ge meets.
-      let same : j ≡ l = omega (arith, lt, ge) in
-      let one = one_level settings l other level (subst (λ (i : ℕ). IsLevelAt settings i other) same closes.there) at in
-      none (subst (λ (x : Level). MeetsLate settings own candidate m aircraft x.volume x.lookahead) one meets))
-      (cases_lt j l)
+    pub no_level_more : (l : ℕ) (level : Level) → IsLevelAt settings l level → ¬ Meets level → IsNoLevelBelow Meets l → IsNoLevelBelow Meets (l + 1)
+    no_level_more l level at none h j other lt closes = ⊎_elim
+        (λ before. h j other before closes)
+        (λ ge meets.
+        let same : j ≡ l = omega (arith, lt, ge) in
+        let one = one_level settings l other level (subst (λ (i : ℕ). IsLevelAt settings i other) same closes.there) at in
+        none (subst Meets one meets))
+        (cases_lt j l)
 
-  pub open_all : (l : ℕ) → length settings.levels < l → AreOpenBelow l → ¬ IsClosedLate settings own candidate m aircraft
-  open_all l past h x = let w = level_within settings x.number x.level x.closes.there in
-      h x.number x.level (omega (arith, w, past)) x.closes x.meets
+    pub no_level_all : (l : ℕ) → length settings.levels < l → IsNoLevelBelow Meets l → (j : ℕ) (level : Level) → Closes settings j level → ¬ Meets level
+    no_level_all l past h j level closes = let w = level_within settings j level closes.there in h j level (omega (arith, w, past)) closes
 
 -- ---- aircraft by aircraft
-module _ (settings : Settings) (picture : Picture) (candidate : Candidate) (m : ℕ) where
-  -- none of the first aircraft closes the candidate
-  abbrev pub AreClearBelow : ℕ → Type 0
-  AreClearBelow n = (i : ℕ) (aircraft : Traffic) → i < n → slice_get (aircraft_of picture) i ≡ Some aircraft → ¬ IsClosedDelayed settings picture.own candidate m aircraft
+module _ (picture : Picture) where
+  -- this holds of none of the first aircraft
+  abbrev pub IsNoneBelow : (Traffic → Type 0) → ℕ → Type 0
+  IsNoneBelow Closes n = (i : ℕ) (aircraft : Traffic) → i < n → slice_get (aircraft_of picture) i ≡ Some aircraft → ¬ Closes aircraft
 
-  pub clear_more : (n : ℕ) (here : Traffic) → slice_get (aircraft_of picture) n ≡ Some here → ¬ IsClosedDelayed settings picture.own candidate m here
-      → AreClearBelow n → AreClearBelow (n + 1)
-  clear_more n here there free h i aircraft lt e = ⊎_elim
-      (λ before. h i aircraft before e)
-      (λ ge closed.
-      let same : i ≡ n = omega (arith, lt, ge) in
-      let at : slice_get (aircraft_of picture) n ≡ Some aircraft = subst (λ (j : ℕ). slice_get (aircraft_of picture) j ≡ Some aircraft) same e in
-      free (subst (IsClosedDelayed settings picture.own candidate m) (same_Some aircraft here (sym at ∙ there)) closed))
-      (cases_lt i n)
+  module _ (Closes : Traffic → Type 0) where
+    pub none_more : (n : ℕ) (here : Traffic) → slice_get (aircraft_of picture) n ≡ Some here → ¬ Closes here → IsNoneBelow Closes n → IsNoneBelow Closes (n + 1)
+    none_more n here there free h i aircraft lt e = ⊎_elim
+        (λ before. h i aircraft before e)
+        (λ ge closed.
+        let same : i ≡ n = omega (arith, lt, ge) in
+        let at : slice_get (aircraft_of picture) n ≡ Some aircraft = subst (λ (j : ℕ). slice_get (aircraft_of picture) j ≡ Some aircraft) same e in
+        free (subst Closes (same_Some aircraft here (sym at ∙ there)) closed))
+        (cases_lt i n)
 
-  pub clear_all : (n : ℕ) → length (aircraft_of picture) ≤ n → AreClearBelow n → IsOpenDelayed settings picture candidate m
-  clear_all n all h place aircraft e = let w = slice_get_within (aircraft_of picture) place aircraft e in h place aircraft (omega (arith, w, all)) e
+    pub none_all : (n : ℕ) → length (aircraft_of picture) ≤ n → IsNoneBelow Closes n → (place : ℕ) (aircraft : Traffic) → slice_get (aircraft_of picture) place ≡ Some aircraft → ¬ Closes aircraft
+    none_all n all h place aircraft e = let w = slice_get_within (aircraft_of picture) place aircraft e in h place aircraft (omega (arith, w, all)) e
 
 -- ---- value by value
 module _ (settings : Settings) (picture : Picture) (kind : Kind) (m : ℕ) where

@@ -4,6 +4,7 @@ ghost use Rattle.daa_state.specs.InRange.{IsPictureInRange};
 ghost use Rattle.daa_last.specs.Last.{IsLastTime};
 
 use crate::search::is_some_open;
+use crate::side::sides_of;
 use crate::starts::starts_of;
 use daa_config::{Candidate, Config, Kind};
 use daa_legs::Trunk;
@@ -24,9 +25,10 @@ pub fn last_of(config: &Config, picture: &Picture, kind: Kind) -> Option<u32>
     let mut held = Trunk::new();
     held.fill(&picture.own, config, Candidate::Hold, horizon);
     let mut m = starts_of(config, picture, &held, horizon);
+    let sides = sides_of(config, &picture.own, kind, horizon);
     while m > 0 {
         m -= 1;
-        if is_some_open(config, picture, kind, &held.leg(m).place, m) {
+        if is_some_open(config, picture, kind, &sides, held.leg(m), m, horizon) {
             return Some(m);
         }
     }

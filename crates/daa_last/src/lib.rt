@@ -3,10 +3,11 @@
 #![tactic(auto)]
 
 mod aircraft;
-mod delayed;
 mod last;
 mod laws;
+mod rest;
 mod search;
+mod side;
 mod starts;
 
 pub use last::last_of;

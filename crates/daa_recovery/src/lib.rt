@@ -18,3 +18,4 @@ pub use laws::{
 };
 pub use outlook::{candidate_going_to, horizon_of};
 pub use recovery::{Recovery, least, least_on};
+pub use side::lead_to;

@@ -39,7 +39,7 @@ pub(crate) struct Sides {
 /// The candidate that leads on a side of a kind: half a turn to the right or a degree less to the
 /// left, or the greatest or the least value that may be asked for.
 #[tactic(auto, unfolding(daa_legs::specs::Branch::lead_of))]
-pub(crate) fn lead_to(own: &Own, kind: Kind, upper: bool) -> Candidate
+pub fn lead_to(own: &Own, kind: Kind, upper: bool) -> Candidate
     requires { IsOwnInRange own.now }
     ensures value { (z : ℤ) → result ≡ lead_of own.now (candidate_to kind z) upper }
     ensures in_range { IsCandidateInRange result }

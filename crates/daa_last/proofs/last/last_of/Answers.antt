@@ -1,7 +1,6 @@
-use Rattle.std.proofs.Common.{◌-◌, ◌<◌, ◌≤◌, ℕ, ap, arith}
+use Rattle.std.proofs.Common.{◌-◌, ◌<◌, ◌≤◌, ℕ, arith}
 use Rattle.daa_config.specs.declared.candidate.Candidate.TheVariants.{Hold}
 use Rattle.daa_config.specs.Settings.{rates_of}
-use Rattle.daa_legs.specs.declared.own_leg.OwnLeg.{OwnLeg}
 use Rattle.daa_meet.proofs.Keeping.{kept_is}
 use Rattle.daa_recovery.proofs.Horizons.{horizon_short}
 use Rattle.daa_last.proofs.Searching.{tried_first, tried_more, last_at, no_last}
@@ -17,9 +16,6 @@ short m n some le h = omega (arith, some, le, h)
 same : (m : ℕ) → m ≤ m
 same m = omega arith
 
-at_most : (m : ℕ) → m < 180 → m ≤ 180
-at_most m lt = omega (arith, lt)
-
 pub fill-requires-clause-most : goal.fill-requires-clause-most
 fill-requires-clause-most c = horizon_short _ _ c.horizon_of-horizon.ensures.accepted c.horizon_of-horizon.ensures.value
 
@@ -34,14 +30,17 @@ leg-requires-clause-k c = short c.loop-m.m c.horizon_of-horizon.result c.loop-m-
     (horizon_short _ _ c.horizon_of-horizon.ensures.accepted c.horizon_of-horizon.ensures.value)
 
 pub is_some_open-requires-clause-start : goal.is_some_open-requires-clause-start
-is_some_open-requires-clause-start c = ap (λ (l : OwnLeg). l.place)
-    (kept_is c.args.picture.now.own (rates_of c.args.config.now) Hold c.horizon_of-horizon.result (c.loop-m.m - 1) c.fill.new.self c.leg.result.now c.fill.ensures
-    (before c.loop-m.m c.horizon_of-horizon.result c.loop-m-test.true c.loop-m.invariant.within) c.leg.ensures)
+is_some_open-requires-clause-start c = kept_is c.args.picture.now.own (rates_of c.args.config.now) Hold c.horizon_of-horizon.result (c.loop-m.m - 1) c.fill.new.self c.leg.result.now c.fill.ensures
+    (before c.loop-m.m c.horizon_of-horizon.result c.loop-m-test.true c.loop-m.invariant.within) c.leg.ensures
 
 pub is_some_open-requires-clause-m : goal.is_some_open-requires-clause-m
-is_some_open-requires-clause-m c = at_most _
-    (short c.loop-m.m c.horizon_of-horizon.result c.loop-m-test.true c.loop-m.invariant.within
-    (horizon_short _ _ c.horizon_of-horizon.ensures.accepted c.horizon_of-horizon.ensures.value))
+is_some_open-requires-clause-m c = before c.loop-m.m c.horizon_of-horizon.result c.loop-m-test.true c.loop-m.invariant.within
+
+pub is_some_open-requires-clause-short : goal.is_some_open-requires-clause-short
+is_some_open-requires-clause-short c = horizon_short _ _ c.horizon_of-horizon.ensures.accepted c.horizon_of-horizon.ensures.value
+
+pub sides_of-sides-requires-clause-horizon : goal.sides_of-sides-requires-clause-horizon
+sides_of-sides-requires-clause-horizon c = horizon_short _ _ c.horizon_of-horizon.ensures.accepted c.horizon_of-horizon.ensures.value
 
 pub is_some_open-requires-clause-held : goal.is_some_open-requires-clause-held
 is_some_open-requires-clause-held c = c.loop-m.invariant.clear (c.loop-m.m - 1) (before c.loop-m.m c.loop-m.m c.loop-m-test.true (same c.loop-m.m))

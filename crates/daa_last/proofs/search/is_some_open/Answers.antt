@@ -20,20 +20,23 @@ returns-in-None c = (
     index = c.loop-index.index;
     value = c.value.result;
     there = c.value.ensures.value;
-    is_open = subst (λ (x : Candidate). IsOpenDelayed c.args.config.now c.args.picture.now x c.args.m) (tried c.before) c.in-None.ensures;
+    is_open = subst (λ (x : Candidate). IsOpenDelayed c.args.config.now c.args.picture.now x c.args.m) (tried c.before) c.in-None.ensures.closes;
   }),
   (λ _. refl),
 )
 
 pub loop-index-preserved : goal.loop-index-preserved
-loop-index-preserved c = shut_more c.args.config.now c.args.picture.now c.args.kind c.args.m c.loop-index.index c.value.result c.value.ensures.value
-    (λ x. c.in-Some.ensures (subst (λ (y : Candidate). IsOpenDelayed c.args.config.now c.args.picture.now y c.args.m) (sym (tried c.before)) x))
-    c.loop-index.invariant
+loop-index-preserved c = record {
+  walks = c.in-Some.ensures.walks;
+  shut = shut_more c.args.config.now c.args.picture.now c.args.kind c.args.m c.loop-index.index c.value.result c.value.ensures.value
+      (λ x. c.in-Some.ensures.closes (subst (λ (y : Candidate). IsOpenDelayed c.args.config.now c.args.picture.now y c.args.m) (sym (tried c.before)) x))
+      c.loop-index.invariant.shut;
+}
 
 pub returns : goal.returns
 returns c = (
   (λ t. absurd (cc t)),
   (λ x. absurd
       (shut_all c.args.config.now c.args.picture.now c.args.kind c.args.m c.loop-index.index
-      (omega (arith, c.loop-index-test.false, c.count-index-end.ensures.value)) c.loop-index.invariant x)),
+      (omega (arith, c.loop-index-test.false, c.count-index-end.ensures.value)) c.loop-index.invariant.shut x)),
 )

@@ -4,7 +4,7 @@ use Rattle.std.proofs.lemmas.Int.{ints, int_max_is, int_min_is}
 use Rattle.daa_fixed.specs.Size.{IsFrom, IsWithin}
 use Rattle.daa_fixed.specs.Toward.{toward_of}
 use Rattle.daa_fixed.proofs.Bounds.{fits, as_within}
-use Rattle.daa_last.proofs.delayed.rise.Goals as goal
+use Rattle.daa_last.proofs.rest.rise.Goals as goal
 
 -- at most the rate away
 near : (h y r : ℤ) → IsFrom (pos 1) (pos 10000) r → IsWithin 10000 (toward_of h y r -ℤ h)
