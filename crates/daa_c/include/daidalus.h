@@ -50,7 +50,7 @@ extern "C" {
 #endif
 
 /* The version of this header: major * 10000 + minor * 100 + patch; daa_version() tells that of the archive. */
-#define DAA_VERSION 30100
+#define DAA_VERSION 30200
 
 /* Limits. */
 #define DAA_MOST_AIRCRAFT 64     /* of a moment */
