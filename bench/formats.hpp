@@ -233,6 +233,7 @@ class Generator {
         made.own = {0, 0, 0, 0, 0, 0};
         made.own.alt = pick(0, 20000), made.own.trk = pick(0, 359), made.own.gs = pick(500, 5000), made.own.vs = pick(-2000, 2000);
         const int64_t count = pick(0, 8);
+        made.traffic.reserve(count);
         for (int64_t number = 1; number <= count; number++) {
             Traffic it{"A" + std::to_string(number), 0, 0, 0, 0, 0, 0, 0};
             it.x = pick(-8000, 8000), it.y = pick(-8000, 8000), it.alt = made.own.alt + pick(-2000, 2000);
@@ -295,6 +296,18 @@ inline Sides sides_of(const Config &config, const Moment &moment, const Answer &
     return found;
 }
 
+// The place behind the last candidate of the run that begins at one: all of them have the same level.
+inline size_t end_of_run(const std::vector<uint8_t> &levels, size_t begin) {
+    const uint64_t alike = levels[begin] * 0x0101010101010101u;
+    size_t end = begin + 1;
+    for (uint64_t eight = alike; end + 8 <= levels.size(); end += 8) {
+        std::memcpy(&eight, &levels[end], 8);
+        if (eight != alike) break;
+    }
+    while (end < levels.size() && levels[end] == levels[begin]) end++;
+    return end;
+}
+
 inline void append(std::string &out, std::initializer_list<std::string_view> words) {
     for (const auto word : words) out += word;
 }
@@ -311,7 +324,7 @@ inline void write_report(std::string &out, const Config &config, const Moment &m
         const auto &values = config.values[kind];
         const auto &levels = answer.levels[kind];
         for (size_t begin = 0, end; begin < values.size(); begin = end) {
-            for (end = begin + 1; end < values.size() && levels[end] == levels[begin]; end++) {}
+            end = end_of_run(levels, begin);
             append(out, {NAMES[kind], " ", text(values[begin]), " ", text(values[end - 1]), " ", text(levels[begin]), "\n"});
         }
     }
@@ -357,8 +370,13 @@ class Summary {
     void add(const Answer &answer) {
         aircraft_ += answer.alerts.size();
         for (const Alert &alert : answer.alerts) counts_[KINDS][alert.level]++;
-        for (int kind = 0; kind < KINDS; kind++)
-            for (const uint8_t level : answer.levels[kind]) counts_[kind][level]++;
+        for (int kind = 0; kind < KINDS; kind++) {
+            const auto &levels = answer.levels[kind];
+            for (size_t begin = 0, end; begin < levels.size(); begin = end) {
+                end = end_of_run(levels, begin);
+                counts_[kind][levels[begin]] += static_cast<int64_t>(end - begin);
+            }
+        }
     }
     void write(std::string &out, uint64_t seed, int64_t moments) const {
         append(out, {"exercise ", std::to_string(seed), " ", std::to_string(moments), "\naircraft ", std::to_string(aircraft_), "\n"});
