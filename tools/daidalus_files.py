@@ -26,6 +26,10 @@ class Problem(Exception):
         super().__init__(message)
         self.status = status
 
+    def __reduce__(self):
+        """So that it goes from one process to another."""
+        return Problem, (str(self), self.status)
+
 
 def run_tool(name, main):
     """Runs a tool's main and ends the process; what it can't do is told in one line on standard error. An interrupt ends it as

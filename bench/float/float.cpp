@@ -176,8 +176,9 @@ class Engine {
             there_.push_back(Vector{it.x / 1000.0, it.y / 1000.0, static_cast<double>(it.alt)} + static_cast<double>(it.age) * their_.back());
         }
         answer.alerts.assign(moment.traffic.size(), Alert{});
-        answer.is_kept = true;
+        kept_until_ = NEVER;
         for (size_t place = 0; place < there_.size(); place++) alert(place, answer);
+        answer.is_kept = kept_until_ == NEVER;
         for (int kind = 0; kind < KINDS; kind++) {
             make_flights(kind, 0);
             answer.last[kind].reset(), answer.recovery[kind].reset();
@@ -202,7 +203,7 @@ class Engine {
     }
     static double cut(double value) { return std::trunc(value + std::copysign(1e-6, value)); }
 
-    void alert(size_t place, Answer &answer) const {
+    void alert(size_t place, Answer &answer) {
         const Vector s = begin_ - there_[place], v = present_ - their_[place];
         Alert &it = answer.alerts[place];
         for (size_t l = volumes_.size(); l >= 1; l--) {
@@ -212,7 +213,7 @@ class Engine {
                 const double first = volume.first_violation(s, v, 0, volume.alert);
                 if (first != NEVER) it.level = static_cast<int>(l), it.first = std::max<int64_t>(0, static_cast<int64_t>(std::ceil(first)) - 1);
             }
-            if (static_cast<int>(l) >= config_.resolve && volume.first_violation(s, v, 0, volume.lookahead) != NEVER) answer.is_kept = false;
+            if (static_cast<int>(l) >= config_.resolve) kept_until_ = std::min(kept_until_, volume.first_violation(s, v, 0, volume.lookahead));
         }
     }
 
@@ -253,25 +254,46 @@ class Engine {
         return volume.first_violation(s, v, std::max(from - it.end, 0.0), volume.lookahead - it.end) != NEVER;
     }
 
-    bool is_met(const Flight &it, size_t other, const Volume &volume, double from) const {
-        if (from >= volume.lookahead) return false;
-        const auto &side = sides_[it.side];
-        for (size_t place = 0; place < it.shared && side[place].begin < volume.lookahead; place++)
-            if (meets(side[place], other, volume, from)) return true;
-        return meets_rest(it, other, volume, from);
+    // Whether a flight meets no aircraft at a level from `resolve` up after second `from`.
+    bool is_open(const Flight &it, int64_t from) {
+        if (first_closed(it.side, from) < it.shared) return false;
+        const auto after = static_cast<double>(from);
+        for (size_t l = config_.resolve - 1; l < volumes_.size(); l++)
+            for (size_t other = 0; other < there_.size() && after < volumes_[l].lookahead; other++)
+                if (meets_rest(it, other, volumes_[l], after)) return false;
+        return true;
     }
 
-    bool is_open(const Flight &it, double from) const {
-        for (size_t other = 0; other < there_.size(); other++)
-            for (size_t l = config_.resolve - 1; l < volumes_.size(); l++)
-                if (is_met(it, other, volumes_[l], from)) return false;
-        return true;
+    // The first piece of a side after second `from`, a whole one, that meets any aircraft at a level from `resolve` up. All flights of the
+    // side share it, and what was found once is kept.
+    size_t first_closed(int side, int64_t from) {
+        auto &known = first_closed_[side];
+        if (known.size() <= static_cast<size_t>(from)) known.resize(from + 1);
+        if (!known[from]) {
+            const auto &pieces = sides_[side];
+            size_t place = 0;
+            while (place < pieces.size() && (pieces[place].begin + pieces[place].seconds <= static_cast<double>(from) || !is_closed_piece(side, place))) place++;
+            known[from] = place;
+        }
+        return *known[from];
+    }
+
+    bool is_closed_piece(int side, size_t place) {
+        auto &known = closed_[side];
+        known.resize(sides_[side].size());
+        if (!known[place]) {
+            known[place] = false;
+            for (size_t l = config_.resolve - 1; l < volumes_.size() && !*known[place]; l++)
+                for (size_t other = 0; other < there_.size() && !*known[place]; other++) known[place] = meets(sides_[side][place], other, volumes_[l], 0);
+        }
+        return *known[place];
     }
 
     // The flights of a kind's candidates, after `wait` seconds of the present one.
     void make_flights(int kind, double wait) {
         flights_.clear(), own_.clear();
         for (auto &side : sides_) side.clear();
+        for (int side = 0; side < 2; side++) first_closed_[side].clear(), closed_[side].clear();
         const Vector begin = begin_ + wait * present_;
         if (wait > 0)
             for (auto &side : sides_) side.push_back({0, wait, begin_, present_, true});
@@ -402,7 +424,8 @@ class Engine {
 
     std::optional<int64_t> last_time(int kind) {
         std::optional<int64_t> found;
-        for (int64_t wait = config_.horizon() - 1; wait >= 0 && !found; wait--) {
+        const int64_t kept = std::max<int64_t>(static_cast<int64_t>(std::ceil(kept_until_)) - 1, 0);  // if for longer, nothing is open
+        for (int64_t wait = std::min(config_.horizon() - 1, kept); wait >= 0 && !found; wait--) {
             make_flights(kind, static_cast<double>(wait));
             if (std::any_of(flights_.begin(), flights_.end(), [&](const Flight &it) { return is_open(it, 0); })) found = wait;
         }
@@ -422,15 +445,21 @@ class Engine {
         return found;
     }
 
-    std::optional<Recovery> recovery_outside(int kind, double across, double above) const {
+    std::optional<Recovery> recovery_outside(int kind, double across, double above) {
         const auto horizon = static_cast<double>(config_.horizon());
         const Volume cylinder{across, above, 0, 0, horizon, 0, Model::Taumod};
+        std::array<size_t, 2> first{};  // the first piece of each side that meets a cylinder
+        for (int side = 0; side < 2; side++) {
+            first[side] = sides_[side].size();
+            for (size_t other = 0; other < there_.size(); other++) first[side] = std::min(first[side], first_met(sides_[side], other, cylinder, 0));
+        }
         std::optional<Recovery> best;
         for (size_t c = 0; c < flights_.size(); c++) {
             const int64_t value = config_.values[kind][c], now = moment_->present(kind);
-            bool is_clear = true;
-            for (size_t other = 0; other < there_.size() && is_clear; other++) is_clear = !is_met(flights_[c], other, cylinder, 0);
-            const int64_t after = is_clear ? clear_from(flights_[c], best ? best->after : config_.horizon() - 1) : 0;
+            const Flight &it = flights_[c];
+            bool is_clear = first[it.side] >= it.shared;
+            for (size_t other = 0; other < there_.size() && is_clear; other++) is_clear = !meets_rest(it, other, cylinder, 0);
+            const int64_t after = is_clear ? clear_from(it, best ? best->after : config_.horizon() - 1) : 0;
             if (after && (!best || after < best->after || (after == best->after && place_of(config_, kind, now, value) < place_of(config_, kind, now, best->value))))
                 best = Recovery{after, value};
         }
@@ -438,12 +467,12 @@ class Engine {
     }
 
     // The least second from 1 to `most` from which on the flight is open, or 0.
-    int64_t clear_from(const Flight &it, int64_t most) const {
-        if (most < 1 || !is_open(it, static_cast<double>(most))) return 0;
+    int64_t clear_from(const Flight &it, int64_t most) {
+        if (most < 1 || !is_open(it, most)) return 0;
         int64_t low = 1, high = most;
         while (low < high) {
             const int64_t middle = (low + high) / 2;
-            if (is_open(it, static_cast<double>(middle))) high = middle;
+            if (is_open(it, middle)) high = middle;
             else low = middle + 1;
         }
         return low;
@@ -456,8 +485,11 @@ class Engine {
     std::array<double, 360> sines_{};
     const Moment *moment_ = nullptr;
     Vector begin_{}, present_{};
+    double kept_until_ = NEVER;  // when the present flight first violates a level from `resolve` up, within its lookahead
     std::vector<Vector> there_, their_;  // the aircraft now, and their velocities
     std::array<std::vector<Piece>, 2> sides_;
+    std::array<std::vector<std::optional<size_t>>, 2> first_closed_;  // of each side, by second, and by piece: what was found already
+    std::array<std::vector<std::optional<bool>>, 2> closed_;
     std::vector<Flight> flights_;
     std::vector<Piece> own_;  // the pieces that flights have of their own
 };

@@ -1,4 +1,5 @@
 """bench/exact, bench/float and tools/agree: both programs are built, and compared with the program on some hundred moments."""
+import glob
 import os
 import re
 import subprocess
@@ -51,6 +52,15 @@ class Exact(unittest.TestCase):
         words = ["exercise", "--config", CONFIG, "--seed", "7", "--moments", "100"]
         self.assertEqual(written([exact, *words], b""), subprocess.run([program(), *words], stdin=subprocess.DEVNULL, stdout=subprocess.PIPE, check=True).stdout)
 
+    def test_the_longest_moments(self):
+        """Those of bench/worst_moments, of 64 aircraft and the most candidates, with recoveries and last times."""
+        paths = glob.glob(os.path.join(TOP, "bench", "worst_moments", "*", "worst.toml"))
+        self.assertGreaterEqual(len(paths), 7)
+        for path in paths:
+            with open(path.replace(".toml", ".states"), "rb") as file:
+                states = file.read()
+            self.assertEqual(written([exact, "replay", "--config", path], states), replayed(path, states)[1], path)
+
     def test_a_leg_that_ends_as_heights_come_near(self):
         """After 55 s, the whole lookahead of level 3, the heights are 450 feet apart for the first time, on a turn's last leg."""
         states = b"format 2\nmoment 0\nown -2206 -353 4233 118 745 0\ntraffic A1 -2539 -4238 3060 578 2206 723 5\nend\n"
@@ -99,6 +109,29 @@ class Floating(ToolTest):
         self.assertIn("# no ramps: moment 30 alt 0: 1 and 3 (the report, and floating point)\n", worst)
         self.assertIn("\nmoment 30\nown 0 3000 10000 0 3600 0\n", worst)
 
+    def test_several_processes_say_the_same(self):
+        """Moments that are told of in parts are told of as at once."""
+        states = aimed(68, 90)
+        report = agree.chunks_of(replayed(CONFIG, states)[1], "")
+        lines = {int(text.split()[0]): b"moment " + text for text in states.split(b"moment ")[1:]}
+        moments = [(time, lines[time], report[time]) for time in report]
+        whole, sum_of_parts = agree.tally_of((floating, CONFIG, moments)), agree.Tally()
+        for first in (0, 10, 50):
+            sum_of_parts.add(agree.tally_of((floating, CONFIG, moments[first:{0: 10, 10: 50}.get(first, 90)])))
+        self.assertGreater(len(whole.worst), 3)
+        told = [[*tally.lines(), *(each.words() for each in tally.worst_ones())] for tally in (whole, sum_of_parts)]
+        self.assertEqual(*told)
+        with open(ENCOUNTER, "rb") as file:
+            states = file.read()
+        self.assertEqual(self.agreed(CONFIG, states, "--jobs", "2"), self.agreed(CONFIG, states))
+
+    def test_what_a_process_cant_do_is_told_in_one_line(self):
+        with open(ENCOUNTER, "rb") as file:
+            states = file.read()
+        status, out, said = self.tool("agree", "--float", "/bin/false", CONFIG, self.write("in.states", states), self.write("a.report", replayed(CONFIG, states)[1]))
+        self.assertEqual((status, out), (4, ""))
+        self.assert_one_line(said, "bench/float ends with status 1")
+
     def test_a_difference_without_a_cause_is_a_finding(self):
         """Here the report has a level that no flight has."""
         with open(ENCOUNTER, "rb") as file:
@@ -138,6 +171,7 @@ class Compared(ToolTest):
         ran = subprocess.run([*words, program()], capture_output=True, text=True, timeout=120)
         self.assertEqual((ran.returncode, ran.stderr), (0, ""), ran.stdout)
         self.assertTrue(ran.stdout.endswith("the exact program writes the program's text\n"), ran.stdout)
+        self.assertRegex(ran.stdout, r"(?m)^\| drawn, `.*` \|(?: \S+ to \S+ (?:µs|ms) \|){3}(?: [0-9.]+ to [0-9.]+ \|){2}$")
         ran = subprocess.run([*words, "/bin/false"], capture_output=True, text=True, timeout=120)
         self.assertEqual(ran.returncode, 1)
         self.assertIn("FAILED", ran.stdout + ran.stderr)
