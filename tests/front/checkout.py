@@ -168,7 +168,7 @@ class Checkout(unittest.TestCase):
              "install the toolchain (docs/CONTRIBUTING.md), or add its folder bin to the PATH")
 
     def not_taken(self, why):
-        return self.line(2, f"{why}; daidalus --help tells what is taken", "Command words")
+        return self.line(2, f"{why}; daidalus --help lists what is accepted", "Command words")
 
     def line(self, status, why, section="Statuses"):
         self.assertIn(f"\n## {section}\n", text_of("docs/FORMATS.md"))

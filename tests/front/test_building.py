@@ -57,10 +57,10 @@ class Building(Checkout):
 
     def test_nothing_is_built_for_who_asks_for_nothing(self):
         """A program that is there refuses these words itself."""
-        for words, why in (((), "there is no word"), (("",), "there is no word"), *(((word,), f"the word {word} is none of replay, exercise and judge")
+        for words, why in (((), "there is no command word"), (("",), "there is no command word"), *(((word,), f"the word {word} is not replay, exercise or judge")
                                                                                  for word in ("-h", "--config", "help")),
-                           *((("exercise", word), f"the word {word} has no place there") for word in ("--help", "-h"))):
-            self.refused(self.call(*words), f"there is no kept program, none is built yet, and {why}; daidalus --help tells what is taken")
+                           *((("exercise", word), f"the word {word} is not allowed there") for word in ("--help", "-h"))):
+            self.refused(self.call(*words), f"there is no kept program, no program is built yet, and {why}; daidalus --help lists what is accepted")
         self.assertEqual(self.proved(), [])
 
     def test_a_new_date_builds_nothing(self):

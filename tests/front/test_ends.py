@@ -75,8 +75,8 @@ class Ends(unittest.TestCase):
 
     def test_2_where_the_words_are_not_taken(self):
         usage = re.search("^usage: .*\n", text_of("docs/FORMATS.md"), re.M)[0].encode()
-        for words, why in (([], "there is no word"), (["replay"], "--config is missing"), (["-h"], "the word -h is none of replay, exercise and judge")):
-            self.assert_end(words, 2, usage, f"{why}; daidalus --help tells what is taken", "Command words")
+        for words, why in (([], "there is no command word"), (["replay"], "--config is missing"), (["-h"], "the word -h is not replay, exercise or judge")):
+            self.assert_end(words, 2, usage, f"{why}; daidalus --help lists what is accepted", "Command words")
 
     def test_3_where_the_configuration_is_refused(self):
         config = self.write("c.toml", text_of(self.CONFIG).replace("turn_rate = 3", "turn_rate = 31").encode())

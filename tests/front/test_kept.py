@@ -25,7 +25,7 @@ class Kept(Checkout):
         for path in FILES:
             os.utime(f"{self.top}/{path}")
         self.assertEqual(self.call("words", "w"), (0, b"kept <w>", ""))
-        self.assertEqual(self.call(), (2, b"usage\n", self.not_taken("there is no word")))
+        self.assertEqual(self.call(), (2, b"usage\n", self.not_taken("there is no command word")))
         self.assertEqual(self.proved(), [])
 
     def test_a_kept_program_is_not_run_where_a_source_is_another(self):
@@ -48,8 +48,8 @@ class Kept(Checkout):
         self.change()
         self.words["PATH"] = "/usr/bin:/bin"
         ended = self.call("words")
-        self.refused(ended, f"the sources are not those of the kept program, {self.NO_RT}; the program of the sources as they were "
-                     f"can be run all the same: {self.top}/built/x86-64/daidalus")
+        self.refused(ended, f"the sources are not those of the kept program, {self.NO_RT}; the program that was made from the earlier "
+                     f"sources can still be run: {self.top}/built/x86-64/daidalus")
         self.assertEqual(ended[2].count("\n"), 1)
 
     def test_a_kept_program_that_is_not_the_listed_one_is_not_run(self):
@@ -84,14 +84,14 @@ class Kept(Checkout):
         self.keep("#!/bin/sh\necho \"daidalus: version \\`GLIBC_2.34' not found\" >&2\necho more >&2\nexit 1\n")
         self.words["PATH"] = "/usr/bin:/bin"
         self.refused(self.call("words"), "the kept program does not run here, it needs glibc 2.34 or newer and a processor of 2010 or later "
-                     f"(daidalus: version `GLIBC_2.34' not found), {self.NO_RT}; in node tools/replay writes the same bytes, and in Python tools/reference")
+                     f"(daidalus: version `GLIBC_2.34' not found), {self.NO_RT}; tools/replay (with Node) and tools/reference (with Python) write the same bytes")
 
     def test_another_machine_is_told_what_runs_there(self):
         self.keep()
         for kind, processor in (("darwin23", "arm64"), ("linux-gnu", "aarch64"), ("msys", "x86_64")):
             self.words.update(OSTYPE=kind, HOSTTYPE=processor)
-            self.refused(self.call("words"), f"the program is for Linux on x86-64, and this is {kind} on {processor}: in node tools/replay writes the "
-                         "same bytes, as tools/replay --config examples/three_levels.toml < examples/encounter.states")
+            self.refused(self.call("words"), f"the program is for Linux on x86-64, and this is {kind} on {processor}: tools/replay writes the same "
+                         "bytes with Node, for example tools/replay --config examples/three_levels.toml < examples/encounter.states")
         self.assertEqual(self.call("--help")[0], 0)
 
     def test_a_checkout_that_cannot_be_written_runs_the_kept_program(self):
@@ -102,7 +102,7 @@ class Kept(Checkout):
 
     def test_prove_says_whether_the_kept_program_is_what_is_built(self):
         self.keep(PROGRAM)
-        same = b"same: built/x86-64/daidalus is, byte for byte, what was proved and built here of these sources\n"
+        same = b"same: built/x86-64/daidalus is, byte for byte, what was proved and built here from these sources\n"
         status, wrote, said = self.call("--prove")
         self.assertEqual((status, wrote), (0, same), said)
         self.assertTrue(said.startswith("daidalus: proving and building the program first, "), said)
@@ -110,7 +110,7 @@ class Kept(Checkout):
         self.assertEqual(self.call("--prove"), (0, same, ""))
         made = f"{self.top}/crates/daa_program/out/daa_program"
         self.keep()
-        self.assertEqual(self.call("--prove"), (1, f"differs: built/x86-64/daidalus is not what was proved and built here of the same sources, {made}\n".encode(), ""))
+        self.assertEqual(self.call("--prove"), (1, f"differs: built/x86-64/daidalus is not what was proved and built here from the same sources, {made}\n".encode(), ""))
         self.keep(sources="0" * 64)
         self.assertEqual(self.call("--prove"), (1, f"differs: the sources are not those of the kept program; what was proved and built here is {made}\n".encode(), ""))
         os.remove(f"{self.top}/built/FILES")

@@ -20,10 +20,10 @@ class Own(Checkout):
     def test_each_status_is_passed_on_and_told_in_its_sentence(self):
         self.built()
         told = {0: "", 1: self.line(1, "lines of the states are refused: tools/check a.toml STATES says why", "Faults of lines"),
-                2: self.not_taken("these words are not taken"),
+                2: self.not_taken("these command words are not accepted"),
                 3: self.line(3, "the configuration a.toml is refused: tools/check a.toml says why", "Configuration"),
                 4: self.line(4, "standard input could not be read to its end"), 5: self.line(5, "standard output could not be written"),
-                6: self.line(6, "there was no memory to make ready"), 7: self.line(7, "a.toml cannot be read"),
+                6: self.line(6, "there was not enough memory to start"), 7: self.line(7, "a.toml cannot be read"),
                 8: self.line(8, "standard input has more than 2^40 bytes")}
         with tempfile.TemporaryFile() as out:
             for status, said in told.items():
@@ -43,10 +43,10 @@ class Own(Checkout):
 
     def test_a_line_names_the_word(self):
         self.built()
-        nowhere, twice, missing = "the word {} has no place there", "--{} stands twice", "--{} is missing"
+        nowhere, twice, missing = "the word {} is not allowed there", "--{} is given twice", "--{} is missing"
         cases = {
-            (): "there is no word",
-            ("replya", "--config", "c"): "the word replya is none of replay, exercise and judge",
+            (): "there is no command word",
+            ("replya", "--config", "c"): "the word replya is not replay, exercise or judge",
             ("replay", "--confg", "c"): nowhere.format("--confg"),
             ("replay", "--config", "c", "more"): nowhere.format("more"),
             ("replay", "--config", "c", "a b"): nowhere.format("a\\ b"),
@@ -62,14 +62,14 @@ class Own(Checkout):
             ("replay", "--config"): "--config has no value",
             ("judge", "--config", "c", "--states", "--workers=1"): "--states has no value (--workers=1 is not one)",
             ("exercise", "--config", "c", "--seed", "7", "--moments", "-1"): "--moments has no value (-1 is not one)",
-            ("replay", "--workers", "17", "--config", "c"): "--workers takes 1 to 16, and not 17",
-            ("replay", "--workers=0", "--config", "c"): "--workers takes 1 to 16, and not 0",
-            ("judge", "--workers=two", "--config", "c", "--states=d"): "--workers takes 1 to 16, and not two",
-            ("replay", "--config", "c", "--ahead", "1025"): "--ahead takes 0 to 1024, and not 1025",
+            ("replay", "--workers", "17", "--config", "c"): "--workers must be 1 to 16, not 17",
+            ("replay", "--workers=0", "--config", "c"): "--workers must be 1 to 16, not 0",
+            ("judge", "--workers=two", "--config", "c", "--states=d"): "--workers must be 1 to 16, not two",
+            ("replay", "--config", "c", "--ahead", "1025"): "--ahead must be 0 to 1024, not 1025",
             ("exercise", "--config", "c", "--seed", "4294967296", "--moments", "5"):
-                "--seed takes 0 to 4294967295, and not 4294967296",
-            ("exercise", "--config", "c", "--seed", "7", "--moments=0"): "--moments takes 1 to 10000, and not 0",
-            ("exercise", "--config", "c", "--seed", "7", "--moments=10001"): "--moments takes 1 to 10000, and not 10001",
+                "--seed must be 0 to 4294967295, not 4294967296",
+            ("exercise", "--config", "c", "--seed", "7", "--moments=0"): "--moments must be 1 to 10000, not 0",
+            ("exercise", "--config", "c", "--seed", "7", "--moments=10001"): "--moments must be 1 to 10000, not 10001",
             ("replay", "--config", b"\xff"): "the word $'\\377' is not UTF-8",
         }
         for words, why in cases.items():
@@ -78,7 +78,7 @@ class Own(Checkout):
     def test_the_scripts_own_words_stand_alone(self):
         self.built()
         for words in (("--version", "more"), ("--help", "replay"), ("replay", "--help")):
-            why = f"the word {words[0]} is none of replay, exercise and judge" if words[0] != "replay" else "the word --help has no place there"
+            why = f"the word {words[0]} is not replay, exercise or judge" if words[0] != "replay" else "the word --help is not allowed there"
             self.assertEqual(self.told(2, *words), self.not_taken(why))
 
     def test_words_that_are_taken_are_not_blamed(self):
@@ -90,7 +90,7 @@ class Own(Checkout):
             ("exercise", "--moments", "1", "--seed=0", "--config", "c"),
             ("judge", "--states=--x", "--config", "c"),
         ):
-            self.assertEqual(self.told(2, *words), self.not_taken("these words are not taken"))
+            self.assertEqual(self.told(2, *words), self.not_taken("these command words are not accepted"))
 
     def test_a_line_names_the_file(self):
         self.built()

@@ -129,7 +129,7 @@ class Refusing(Checkout):
         nobody = self.read_only()
         copying = f"cp -r {self.top} COPY && chmod -R u+w COPY"
         sentence = (f"there is no kept program, and {self.top}/crates/daa_program/out cannot be written: "
-                    f"call it in a copy of your own ({copying})")
+                    f"call it in your own copy ({copying})")
         self.refused(self.call("words", **nobody), sentence)
         own = tempfile.mkdtemp(prefix="daidalus-own-")
         self.addCleanup(shutil.rmtree, own, ignore_errors=True)
@@ -152,7 +152,7 @@ class Refusing(Checkout):
 
     def test_without_rt_it_says_what_to_do(self):
         self.words["PATH"] = "/usr/bin:/bin"
-        self.refused(self.call("words"), f"there is no kept program, {self.NO_RT}; in node tools/replay writes the same bytes, and in Python tools/reference")
+        self.refused(self.call("words"), f"there is no kept program, {self.NO_RT}; tools/replay (with Node) and tools/reference (with Python) write the same bytes")
 
     def test_without_rt_no_module_of_the_page_is_made(self):
         made = f"{self.place}/made.wasm"
