@@ -231,9 +231,10 @@ struct daa_resolution_answer {
     int32_t what, value;
 };
 
-/* The recovery of a kind, or on one side of it. found: 1, and then after (seconds, 1 to 179) is the least time from which on some value violates
- * no level from resolve up, while it stays out of the cylinder from now on, and value the least that does so, or with
- * nearest the one nearest to the present value, in the kind's unit; or 0 if there is none, and after and value are 0. */
+/* The recovery of a kind, or that on one side of it. found: 1, and then after (seconds, 1 to 179) is the least time from which
+ * on some value violates no level from resolve up, while it stays out of the cylinder from now on, and value the least that
+ * does so, or with nearest the one nearest to the present value, in the kind's unit; or 0 if there is none, and after and
+ * value are 0. */
 struct daa_recovery_answer {
     int32_t found;
     uint32_t after;
