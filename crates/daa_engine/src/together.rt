@@ -13,8 +13,8 @@ ghost use Rattle.daa_engine.specs.Inside.Merging.{IsMerged};
 
 use daa_bands::Board;
 use daa_config::Config;
-use daa_legs::{Branch, Trunk};
 use daa_io::Gate;
+use daa_legs::{Branch, Trunk};
 use daa_pool::answer_all;
 use daa_scan::{Scene, fill_flights};
 use daa_schedule::{Answers, NoMemory};

@@ -10,8 +10,8 @@ ghost use Rattle.daa_replay.specs.Inside.Opening as spec;
 
 use daa_config::{Config, ConfigFault, read};
 use daa_engine::{Engine, NoMemory};
-use daa_judge::Sheet;
 use daa_io::{FetchFault, Shelf};
+use daa_judge::Sheet;
 use daa_words::{Order, Task, WordsFault, read_words};
 use std::alloc::Global;
 use std::snapshot::Snapshot;

@@ -147,8 +147,20 @@ fn mark_level(
     };
     mark_present(&round, &present, first, masks);
     mark_kind(&round, Kind::Track, &mut stretches.tracks, first, masks);
-    mark_kind(&round, Kind::GroundSpeed, &mut stretches.speeds, first, masks);
-    mark_kind(&round, Kind::VerticalSpeed, &mut stretches.climbs, first, masks);
+    mark_kind(
+        &round,
+        Kind::GroundSpeed,
+        &mut stretches.speeds,
+        first,
+        masks,
+    );
+    mark_kind(
+        &round,
+        Kind::VerticalSpeed,
+        &mut stretches.climbs,
+        first,
+        masks,
+    );
     mark_kind(&round, Kind::Altitude, &mut stretches.heights, first, masks);
 }
 

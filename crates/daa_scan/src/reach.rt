@@ -48,7 +48,10 @@ fn greatest_horizontal_speed(encounter: &Encounter) -> i64
     ensures size { IsWithin (2 ^ 40) result }
 {
     let aircraft = encounter.aircraft;
-    let greatest = encounter.own.gs.max(encounter.config.greatest(Kind::GroundSpeed));
+    let greatest = encounter
+        .own
+        .gs
+        .max(encounter.config.greatest(Kind::GroundSpeed));
     i64::from(greatest) + 1 + size(aircraft.vx) + size(aircraft.vy)
 }
 

@@ -1,7 +1,7 @@
 //! daa_judge: comparing over a source in memory, and a sheet.
 
-use daa_judge::{Found, Matching, NoMemory, Sheet};
 use daa_io::{Failed, MemSource, Sink};
+use daa_judge::{Found, Matching, NoMemory, Sheet};
 use std::alloc::{AllocError, Global};
 use std::error::Error;
 use std::process::Abort;

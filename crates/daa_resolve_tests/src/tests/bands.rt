@@ -52,7 +52,13 @@ fn nothing_covered(rt: HostRuntime) -> Result<(), Fail> {
     let board = Board::new();
     expect_bands(&rt, &board, &config, Kind::Track, &[(0, 270, 0)]);
     expect_bands(&rt, &board, &config, Kind::GroundSpeed, &[(3000, 3900, 0)]);
-    expect_bands(&rt, &board, &config, Kind::VerticalSpeed, &[(-500, -500, 0)]);
+    expect_bands(
+        &rt,
+        &board,
+        &config,
+        Kind::VerticalSpeed,
+        &[(-500, -500, 0)],
+    );
     expect_bands(&rt, &board, &config, Kind::Altitude, &[(1000, 1000, 0)]);
     Ok(())
 }
@@ -71,7 +77,13 @@ fn runs_of_all_kinds(rt: HostRuntime) -> Result<(), Fail> {
     let speed = [(3000, 3000, 4), (3300, 3300, 0), (3600, 3900, 3)];
     expect_bands(&rt, &board, &config, Kind::Track, &track);
     expect_bands(&rt, &board, &config, Kind::GroundSpeed, &speed);
-    expect_bands(&rt, &board, &config, Kind::VerticalSpeed, &[(-500, -500, 4)]);
+    expect_bands(
+        &rt,
+        &board,
+        &config,
+        Kind::VerticalSpeed,
+        &[(-500, -500, 4)],
+    );
     expect_bands(&rt, &board, &config, Kind::Altitude, &[(1000, 1000, 0)]);
     Ok(())
 }

@@ -110,9 +110,23 @@ fn nearest_speeds(rt: HostRuntime) -> Result<(), Fail> {
     let config = read(rt.alloc(), QUARTERS.as_bytes())?;
     let board = board_with_open(&config, &[1, 2, 3, 4, 5, 6, 8, 9, 10]);
     let wanted = (Resolution::To(3300), Resolution::To(3900));
-    expect_answers(&rt, &board, &config, &own(0, 3600), Kind::GroundSpeed, wanted);
+    expect_answers(
+        &rt,
+        &board,
+        &config,
+        &own(0, 3600),
+        Kind::GroundSpeed,
+        wanted,
+    );
     let wanted = (Resolution::Nothing, Resolution::To(3000));
-    expect_answers(&rt, &board, &config, &own(0, 2999), Kind::GroundSpeed, wanted);
+    expect_answers(
+        &rt,
+        &board,
+        &config,
+        &own(0, 2999),
+        Kind::GroundSpeed,
+        wanted,
+    );
     Ok(())
 }
 
@@ -159,7 +173,12 @@ fn hold_open_or_nothing_open(rt: HostRuntime) -> Result<(), Fail> {
     let kept = board_with_open(&config, &[0]);
     let lost = board_with_open(&config, &[]);
     let (keep, none) = (Resolution::Keep, Resolution::Nothing);
-    for kind in [Kind::Track, Kind::GroundSpeed, Kind::VerticalSpeed, Kind::Altitude] {
+    for kind in [
+        Kind::Track,
+        Kind::GroundSpeed,
+        Kind::VerticalSpeed,
+        Kind::Altitude,
+    ] {
         expect_answers(&rt, &kept, &config, &own(0, 3600), kind, (keep, keep));
         expect_answers(&rt, &lost, &config, &own(0, 3600), kind, (none, none));
     }

@@ -42,7 +42,7 @@ pub returns-in-Track-clause-near : goal.returns-in-Track-clause-near
 returns-in-Track-clause-near c = near_is _ _ c.parting_after.ensures (omega arith) (omega arith)
 
 speeds : (c : After-parting_after-in-GroundSpeed)
-        → FliesAs c.args.own.now c.args.rates.now (GroundSpeed c.in-GroundSpeed.g) (lead_of c.args.own.now (GroundSpeed c.in-GroundSpeed.g) c.way_to.result.upper)
+    → FliesAs c.args.own.now c.args.rates.now (GroundSpeed c.in-GroundSpeed.g) (lead_of c.args.own.now (GroundSpeed c.in-GroundSpeed.g) c.way_to.result.upper)
     (c.way_to.result.legs + 1) × FliesOn c.args.own.now c.args.rates.now (GroundSpeed c.in-GroundSpeed.g) (c.way_to.result.legs + 1) × ((k : ℕ) → k < c.way_to.result.legs + 1
     → IsOnWay c.args.own.now c.args.rates.now (GroundSpeed c.in-GroundSpeed.g) c.way_to.result.upper k)
 speeds c =
@@ -72,7 +72,7 @@ returns-in-GroundSpeed-clause-near c = near_is _ _ c.parting_after-in-GroundSpee
 
 climbs : (c : After-parting_after-in-VerticalSpeed) → FliesAs c.args.own.now c.args.rates.now (VerticalSpeed c.in-VerticalSpeed.w) (lead_of c.args.own.now (VerticalSpeed c.in-VerticalSpeed.w)
     c.way_to-in-VerticalSpeed.result.upper) (c.way_to-in-VerticalSpeed.result.legs + 1)
-        × FliesOn c.args.own.now c.args.rates.now (VerticalSpeed c.in-VerticalSpeed.w) (c.way_to-in-VerticalSpeed.result.legs + 1)
+    × FliesOn c.args.own.now c.args.rates.now (VerticalSpeed c.in-VerticalSpeed.w) (c.way_to-in-VerticalSpeed.result.legs + 1)
     × ((k : ℕ) → k < c.way_to-in-VerticalSpeed.result.legs + 1 → IsOnWay c.args.own.now c.args.rates.now (VerticalSpeed c.in-VerticalSpeed.w) c.way_to-in-VerticalSpeed.result.upper k)
 climbs c =
     let n1 : FitsSigned w32 c.args.own.now.vs = search rules in
