@@ -5,6 +5,7 @@ very last, `N passed, M failed`. Where the environment has CI=true, as in the ga
 must not pass on what it did not try.
 """
 import collections
+import importlib.util
 import os
 import shutil
 import subprocess
@@ -24,6 +25,14 @@ DAEMONS = ("munged", "slurmctld", "slurmd")  # which lie in folders of the admin
 HEADERS = {"/usr/aarch64-linux-gnu/include/stdio.h": "libc6-dev-arm64-cross"}
 PLACES = "/usr/sbin:/sbin"
 DEBIAN_PYTHON = "/usr/bin/python3"  # the one for which Debian's packages of Python are
+
+
+def use_selenium(script):
+    """Goes on with a script in the python that has selenium: Debian's package is for Debian's own alone."""
+    if importlib.util.find_spec("selenium") or sys.executable == DEBIAN_PYTHON or not os.access(DEBIAN_PYTHON, os.X_OK):
+        return
+    if subprocess.run([DEBIAN_PYTHON, "-c", "import selenium"], capture_output=True).returncode == 0:
+        os.execv(DEBIAN_PYTHON, [DEBIAN_PYTHON, os.path.realpath(script), *sys.argv[1:]])
 
 
 def is_there(command):
