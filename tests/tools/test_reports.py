@@ -18,7 +18,7 @@ import progress
 compare = module("tools/compare")
 
 # What is in tools/ and makes a part of the repository: no page for users names it.
-MAKERS = {"build", "install", "package", "page_module", "prove"}
+MAKERS = {"made", "trust", "build", "install", "package", "page_module", "prove"}
 IN_NODE = {"replay"}
 # It writes nothing on standard output, and ends with its input.
 SERVERS = {"show_live"}
