@@ -1,8 +1,8 @@
-"""How the tests are run, and what is said of them in the last lines.
+"""How the tests are run, and what the last lines say of them.
 
-A line `left out: N tests: WHY` for each cause why tests were left out, WHY naming what has to be installed; and then, as the
-very last, `N passed, M failed`. Where the environment has CI=true, as in the gate, what is left out counts as failed: a gate
-must not pass on what it did not try.
+For each cause for which tests were left out there is a line `left out: N tests: WHY`, and WHY names what to install. The very last line
+is `N passed, M failed`. If CI is true, as in the gate, tests that are left out count as failed, because a gate must not pass on what it
+did not try.
 """
 import collections
 import importlib.util
