@@ -15,7 +15,8 @@
 //   --first-second      a turn or a change of speed begins after one second, and not at once
 //   --no-ramps          a change of altitude has its vertical rate at once, and does not gather and lose it by [vs] rate
 //   --fixed-cylinder    the cylinder of recoveries keeps its size, and is not made smaller until a recovery is found
-//   --touch X           distances and times are compared with X added, in parts of one (1e-9): what only touches then counts
+//   --touch X           the thresholds of distance and of time are wider by X of themselves, as by 1e-9, so that what touches one counts;
+//                       if X is negative they are narrower, so that it does not
 #include "../formats.hpp"
 
 #include <algorithm>
@@ -160,7 +161,7 @@ class Engine {
     Engine(const Config &config, const Style &style) : config_(config), style_(style) {
         const double wider = 1 + style.touch;
         for (const Level &l : config.levels)
-            volumes_.push_back({l.dthr / 1000.0 * wider, l.zthr * wider, static_cast<double>(l.tthr), static_cast<double>(l.tcoa), static_cast<double>(l.lookahead), static_cast<double>(l.alert), l.model});
+            volumes_.push_back({l.dthr / 1000.0 * wider, l.zthr * wider, l.tthr * wider, l.tcoa * wider, static_cast<double>(l.lookahead), static_cast<double>(l.alert), l.model});
         for (const Volume &volume : volumes_) seconds_ = std::max({seconds_, volume.lookahead, volume.alert});
         for (int d = 0; d < 360; d++) sines_[d] = style.whole_headings ? std::round(10000 * std::sin(d * PI / 180)) / 10000 : std::sin(d * PI / 180);
     }

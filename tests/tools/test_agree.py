@@ -141,6 +141,17 @@ class Floating(ToolTest):
         self.assertEqual(status, 1)
         self.assertIn("\nnone: moment 0 track 10: 3 and 0\n", out)
 
+    def test_a_time_that_touches_its_threshold_is_a_cause(self):
+        """The heights are 914 feet apart and come nearer by 914 feet a minute: 20 s, the tcoa of level 2, are left after 40 s, at the end
+        of its lookahead."""
+        config = os.path.join(TOP, "bench", "small.toml")
+        self.assertEqual((read_config(config).levels[1].tcoa, read_config(config).levels[1].lookahead), (20, 40))
+        states = b"format 2\nmoment 7\nown 693 -1353 3345 307 978 0\ntraffic A2 314 -1074 4259 -649 155 -914 0\nend\n"
+        status, out, _ = self.agreed(config, states)
+        self.assertEqual(status, 0, out)
+        self.assertRegex(out, r"(?m)^vs: 1 of 21 differ, 4.8 %: touching 1$")
+        self.assertIn("touching: moment 7 vs 0: 2 and 1\n", out)
+
     def test_what_is_not_of_these_states(self):
         with open(ENCOUNTER, "rb") as file:
             states = file.read()
