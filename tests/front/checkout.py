@@ -88,6 +88,7 @@ class Checkout(unittest.TestCase):
         for path, text in FILES.items():
             self.write(path, text)
         shutil.copy(SCRIPT, f"{self.top}/daidalus")
+        shutil.copytree(f"{TOP}/tools/front", f"{self.top}/tools/front")
         self.write("../meminfo", "MemAvailable: 99999999 kB\n")  # (the machine's own may be little)
         self.write("tools/prove", text_of("tools/prove").replace('"/proc/meminfo"', repr(f"{self.place}/meminfo")))
         os.chmod(f"{self.top}/tools/prove", 0o755)
