@@ -7,12 +7,12 @@
 
   const MEANINGS = {
     open: "Open: the nearest value on this side that is clear of the corrective level, and of every level above it, within the lookahead.",
-    keep: "Keep: the present value is clear of the corrective level, so nothing has to change. It is said of the aircraft that are known.",
+    keep: "Keep: the present value is clear of the corrective level, so nothing has to change. This counts the aircraft that are known.",
     none: "None: no value on this side is open.",
-    corrective: "Corrective: the level that the answers are clear of; a value that leads to it, or to a level above it, is not open.",
-    recovery: "Recovery: nothing is open; this value is the one that is clear again soonest, after so many seconds.",
-    last: "May wait: for so many seconds the present flight may be kept, and a manoeuvre of this kind then still finds an open value.",
-    height: "Height above (+) or below (−) the ownship, in hundreds of feet; an arrow where the aircraft climbs or sinks by 100 ft/min or more.",
+    corrective: "Corrective: the lowest level of which the answers are clear. A value that leads to it, or to a level above it, is not open.",
+    recovery: "Recovery: nothing is open. This value is clear again soonest, after so many seconds.",
+    last: "May wait: the present flight may be kept for so many seconds, and a manoeuvre of this kind then still finds an open value.",
+    height: "Height above (+) or below (−) the ownship, in hundreds of feet. The arrow: it climbs or descends by 100 ft/min or more.",
     alert: "L and a number: the alert level of this aircraft, and in how many seconds its volume is violated.",
   };
 
