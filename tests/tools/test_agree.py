@@ -15,6 +15,7 @@ compare = module("bench/compare")
 moments = module("tools/moments")
 agree = module("tools/agree")
 CONFIGS = (CONFIG, *(os.path.join(TOP, *names) for names in (("examples", "recovery.toml"), ("bench", "small.toml"), ("bench", "slow.toml"))))
+DIFFERENCES = os.path.join(TOP, "examples", "differences{}.states")
 
 
 def aimed(seed, count):
@@ -156,24 +157,27 @@ class Floating(ToolTest):
         with open(ENCOUNTER, "rb") as file:
             states = file.read()
         report = replayed(CONFIG, states)[1]
-        for text, part in ((report.replace(b"moment 10\n", b"moment 11\n").replace(b"done 10\n", b"done 11\n"), "has not the moments of"),
+        for text, part in ((report.replace(b"moment 10\n", b"moment 11\n").replace(b"done 10\n", b"done 11\n"), "does not have the moments of"),
                            (b"refused 1 2\n" + report, "a line was refused")):
             status, out, said = self.tool("agree", "--float", floating, CONFIG, self.write("in.states", states), self.write("a.report", text))
             self.assertEqual((status, out), (4, ""))
             self.assert_one_line(said, part)
 
-    def test_the_tables_of_the_documents(self):
-        """The moments of examples/differences.states are otherwise in floating point, as their comments tell."""
-        path = os.path.join(TOP, "examples", "differences.states")
-        with open(path, "rb") as file:
-            states = file.read()
-        one, other = (agree.chunks_of(report, "") for report in (replayed(CONFIG, states)[1], written([floating, "replay", "--config", CONFIG], states)))
-        told = re.findall(r"^# ([a-z ]+): moment (\d+) (\w+) (\S+): (\d) and (\d) ", states.decode(), re.M)
-        self.assertGreaterEqual(len(told), 5)
-        for _, time, kind, value, level, other_level in told:
-            for chunk, wanted in ((one, level), (other, other_level)):
-                key = (kind, value if kind == "alert" else int(value))
-                self.assertEqual(agree.value_of(agree.moment_of(chunk[int(time)]), key), int(wanted), (time, kind, value))
+    def test_the_greatest_differences_are_as_their_comments_say(self):
+        """In each of examples/differences*.states: what the report and the floating-point program say, and the cause. A table [recovery] changes
+        none of the first."""
+        first, small = (DIFFERENCES.format(word) for word in ("", "_small"))
+        self.assertEqual({first, small}, set(glob.glob(DIFFERENCES.format("*"))))
+        for path, config in zip((first, first, small), CONFIGS):
+            with open(path, "rb") as file:
+                text = file.read()
+            told = re.findall(r"(?m)^# (.*: moment .*) \(the report, and floating point\)$", text.decode())
+            self.assertGreaterEqual(len(told), 10)
+            maker = agree.Float(floating, config)
+            states = {int(lines.split()[1]): lines for lines in re.findall(rb"(?ms)^moment .*?^end\n", text)}
+            found = list(agree.differences(agree.chunks_of(replayed(config, text)[1], ""), maker.report(text), read_config(config)))
+            agree.find_causes(found, maker, states)
+            self.assertEqual(set(told) - {f"{each.cause}: {each.words()}" for each in found}, set(), path)
 
 
 class Compared(ToolTest):

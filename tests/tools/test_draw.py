@@ -110,7 +110,7 @@ class Pictures(ToolTest):
         first, second = STATES.split("moment 10")
         more = STATES + "moment 20\nown 0 0 0 0 0 0\nend\n"
         for states, part in ((first, "no moment 10, which the report has"), (STATES.replace("traffic A", "traffic B"), "at moment 0 the aircraft B"),
-                             (STATES.replace("moment 10", "moment 11"), "no moment 10"), (more, "a moment 20, which the report has not")):
+                             (STATES.replace("moment 10", "moment 11"), "no moment 10"), (more, "a moment 20, which the report does not have")):
             status, out, said = self.tool("draw", "--states", self.write("in.states", states), report)
             self.assertEqual((status, out), (4, ""), states)
             self.assert_one_line(said, part)

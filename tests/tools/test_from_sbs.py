@@ -239,11 +239,11 @@ class FromSbs(ToolTest):
         self.assertTrue(run.stdout.endswith("# no moment: the decoder is gone\n"), run.stdout)
 
     def test_words_that_are_not_taken(self):
-        for words, part in ((("--own", "4B0001"), "HOST:PORT, a file, or --json"), (("x",), "one of --own, --at and --gpsd"),
-                            (("--own", "4B0001", "x"), "x has not the form HOST:PORT"),
+        for words, part in ((("--own", "4B0001"), "give HOST:PORT, a file or --json"), (("x",), "one of --own, --at and --gpsd"),
+                            (("--own", "4B0001", "x"), "x does not have the form HOST:PORT"),
                             (("--gpsd", "x:1", "x:1"), "--gpsd and --above go together"), (("--own", "4B0001", "--json", "http://192.0.2.1/a", "x:1"), "no address by http of this"),
-                            (("--own", "4B0001", "--as-now", "x:1"), "--as-now plays a recording"), (("--own", "4B0001", "--at", "1,2,3", "x:1"), "one of --own"),
-                            (("--own", "4B", "x:1"), "4B is no address"), (("--at", "1,2", "x:1"), "1,2 has not the form LAT,LON,FEET"),
+                            (("--own", "4B0001", "--as-now", "x:1"), "--as-now needs a file"), (("--own", "4B0001", "--at", "1,2,3", "x:1"), "give one of --own"),
+                            (("--own", "4B", "x:1"), "4B is no address"), (("--at", "1,2", "x:1"), "1,2 does not have the form LAT,LON,FEET"),
                             (("--at", "1,2,3", "--oldest", "61", "x:1"), "--oldest is from 0 to 60"), (("--at", "91,2,3", "x:1"), "91,2,3 is no place")):
             status, out, told = self.tool("from_sbs", *words)
             self.assertEqual((status, out), (2, ""))

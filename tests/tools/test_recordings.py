@@ -132,9 +132,9 @@ class Options(RecordingTest):
         reader, said = self.made(text, "--columns", "time=when,name=who,alt=high,gs=fast", "--units", "alt=m,gs=m/s")
         self.assertEqual([moment.own for moment in reader.events], [moment.own for moment in self.made(plain())[0].events])
         self.assertIn("high (m), ", said)
-        for words, part in ((("--columns", "when=time"), "when is no column; they are name, "), (("--columns", "time"), "time has not the form NAME=VALUE"),
+        for words, part in ((("--columns", "when=time"), "when is no column; they are name, "), (("--columns", "time"), "time does not have the form NAME=VALUE"),
                             (("--units", "name=m"), "name is no column with a unit"), (("--columns", "time=nothing"), "the header has no column nothing; it has when"),
-                            (("--shift", "A=x"), "A=x has not the form WHAT=TIME"), (("--shift", "nobody=1h"), "--shift nobody: there is no such file or aircraft")):
+                            (("--shift", "A=x"), "A=x does not have the form WHAT=TIME"), (("--shift", "nobody=1h"), "--shift nobody: there is no such file or aircraft")):
             status, out, said = self.from_daa(self.write("in.csv", text if "nothing" in words[1] else plain()), *words)
             self.assertEqual((status, out), (2, ""), said)
             self.assertIn(part, said)

@@ -64,7 +64,7 @@ def read_rows(path, count=None):
     """The rows of a file; one that lacks an encounter, or has one twice, is a problem, and so is one that has not `count` of them."""
     text = read_bytes(path).decode("utf-8", "replace")
     if not text.startswith(HEAD):
-        raise Problem(f"{path}: its first line has not the columns of tools/study run: is the first shard missing?", 4)
+        raise Problem(f"{path}: its first line does not have the columns of tools/study run: is the first shard missing?", 4)
     if not text.endswith("\n"):
         raise Problem(f"{path}: it ends within a line: was its shard cut short?", 4)
     rows, seen = [], set()
