@@ -98,7 +98,7 @@ function daaCore(root) {
   /** Why there is no moment, by a comment `# no moment: WHY`; nothing where a line is none. */
   function silenceIn(line) {
     const found = isComment(line) && /^#[ \t]+no[ \t]+moment:[ \t]*(.*)$/.exec(new TextDecoder().decode(line).trim());
-    return found ? found[1] || "no cause is told" : "";
+    return found ? found[1] || "no cause is given" : "";
   }
 
   const compiled = new WeakMap(); // by the bytes of a module, which several engines of a page have in common

@@ -84,7 +84,7 @@
     const pairs = KINDS.flatMap(sides);
     const found = pairs.filter(([, , first, second]) => first !== second)
       .map(([kind, side, first, second]) => `${NAMES[kind]} ${side} ${words(kind, first)} ≠ ${words(kind, second)}`);
-    return found.length ? `Answers that differ: ${found.join("; ")}` : "All answers are alike";
+    return found.length ? `Answers that differ: ${found.join("; ")}` : "All answers are the same";
   }
 
   const pick = ({ target }) => { if (target.dataset.choose !== undefined) choose(`p:${target.dataset.choose}`); };
@@ -249,7 +249,7 @@
     for (const kind of KINDS) sortAnswers(said, kind, open, back, none, last);
     const list = (front, parts, mark = "; ") => (parts.length ? `${front}${parts.join(mark)}. ` : "");
     const isKept = open.length + back.length + none.length === 0 && !lack && said.aircraft.length > 0;
-    const quiet = !said.aircraft.length ? "No other aircraft is known. " : lack ? "No alert of those that are known. " : "No alert. ";
+    const quiet = !said.aircraft.length ? "No other aircraft is known. " : lack ? "None of the known aircraft alerts. " : "No alert. ";
     const front = (lack ? `Incomplete: ${lack}. ` : "") + (alerts.length ? list("Alerts: ", alerts, ", ") : quiet);
     const kept = isKept ? "The present flight may be kept. " : "";
     return (front + kept + list("Open: ", open) + list("Clear again: ", back) + list("Nothing open: ", none, ", ")

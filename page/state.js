@@ -238,11 +238,11 @@
     if (!caption.children.length) {
       const button = (what, words, name) => `<button data-do="${what}" aria-label="${name}" title="${name}">${words}</button>`;
       caption.innerHTML = `<button data-do="up" aria-pressed="false">Track up</button>
-        <button data-do="paths" aria-pressed="false" title="Ways to the closest approach, if all fly straight on: of what alerts, and of the
-          chosen aircraft">Paths</button>
-        <button data-do="auto" aria-pressed="true" title="The range follows what alerts">Auto</button>
+        <button data-do="paths" aria-pressed="false" title="The ways to the closest approach, if all fly straight on: of the aircraft that
+          alert, and of the chosen one">Paths</button>
+        <button data-do="auto" aria-pressed="true" title="The range follows the aircraft that alert">Auto</button>
         ${button("wide", "−", "Greater range")}<span data-is="range"></span>${button("near", "+", "Smaller range")}
-        ${button("fit", "Fit", "The range that all aircraft fit in (0)")}
+        ${button("fit", "Fit", "The range that shows all aircraft (0)")}
         ${button("high", "−", "More altitudes")}<span data-is="heights"></span>${button("low", "+", "Fewer altitudes")}
         <span class="gap"></span>${button("svg", "SVG", "Picture of lines (SVG)")}${button("png", "PNG", "Picture of points (PNG)")}`;
       ui.makeToolbar(caption);

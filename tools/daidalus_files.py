@@ -443,7 +443,7 @@ class Reader:
             elif (found := ORIGIN.fullmatch(text)) and self.open.origin is None:
                 self.open.origin = Origin(*map(float, found.groups()))
         elif found := NO_MOMENT.fullmatch(text):
-            self.silence = self.silence or found[1] or "no cause is told"
+            self.silence = self.silence or found[1] or "no cause is given"
         elif self.last is None and (found := CLOCK.fullmatch(text)):
             self.clock = found[1]
         elif self.last is None and (found := OWNSHIP.fullmatch(text)):

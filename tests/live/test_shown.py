@@ -186,7 +186,7 @@ class Shown(LivePage):
 
     def test_a_clock_that_is_wrong(self):
         self.feed(by=10)
-        self.await_banner("stale", "which is to come: a clock is wrong")
+        self.await_banner("stale", "which is in the future: a clock is wrong")
 
     def test_a_connection_that_was_lost(self):
         """The newest moment comes once more with the new connection, and is appended once."""

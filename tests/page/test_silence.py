@@ -20,7 +20,7 @@ class Silence(PageTest):
             notes.append(self.page.text("#notes"))
             self.assertNotIn("Incomplete", self.page.text("#summary"))
         self.assertEqual(notes, ["no moment before this one: not yet heard", "no moment after this one until 160 s: the decoder is gone",
-                                 "no moment before this one: the decoder is gone", "no moment after this one: no cause is told"])
+                                 "no moment before this one: the decoder is gone", "no moment after this one: no cause is given"])
 
     def test_a_link_holds_its_moment_alone(self):
         """Of a moment after a gap a link is made, and what is read from it has no gap."""

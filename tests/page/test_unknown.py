@@ -37,9 +37,9 @@ class Incomplete(unittest.TestCase):
         texts = (FAR, LACK + FAR, FAR + " # \tlacks * 3 more\r\n", "#lacks LOST x\n# Lacks LOST x\n" + FAR, "traffic TOOLONGID 0 0 0 0 0 0\n" + FAR, "")
         found = on_page(SENTENCE + "return sentences(given[0]);", "".join(LACK + ALONE.format(time, text) for time, text in enumerate(texts)))
         whole = ["No alert. The present flight may be kept.", "quiet"]
-        self.assertEqual(found, [whole, ["Incomplete: without LOST: no report for 15 s, 3.2 NM away. No alert of those that are known.", "problem"],
-                                 ["Incomplete: without 3 more. No alert of those that are known.", "problem"], whole,
-                                 ["Incomplete: line 28 was refused with code 5. No alert of those that are known.", "problem"],
+        self.assertEqual(found, [whole, ["Incomplete: without LOST: no report for 15 s, 3.2 NM away. None of the known aircraft alerts.", "problem"],
+                                 ["Incomplete: without 3 more. None of the known aircraft alerts.", "problem"], whole,
+                                 ["Incomplete: line 28 was refused with code 5. None of the known aircraft alerts.", "problem"],
                                  ["No other aircraft is known.", "quiet"]])
 
     def test_alerts_stand_behind_what_is_missing(self):

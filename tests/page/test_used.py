@@ -590,7 +590,7 @@ class Used(unittest.TestCase):
               tell();
             }
             return [[...caption.innerHTML.matchAll(/<button data-do="(\\w+)" aria-label="([^"]*)"[^>]*>([^<]*)</g)].map((it) => it.slice(1)), found];""")
-        self.assertEqual(buttons, [["wide", "Greater range", "−"], ["near", "Smaller range", "+"], ["fit", "The range that all aircraft fit in (0)", "Fit"],
+        self.assertEqual(buttons, [["wide", "Greater range", "−"], ["near", "Smaller range", "+"], ["fit", "The range that shows all aircraft (0)", "Fit"],
                                    ["high", "More altitudes", "−"], ["low", "Fewer altitudes", "+"],
                                    ["svg", "Picture of lines (SVG)", "SVG"], ["png", "Picture of points (PNG)", "PNG"]])
         self.assertEqual(found, [["12 NM", "false"], ["18 NM", "false"], ["12 NM", "false"], ["9 NM", "false"], ["9 NM", "true"]])

@@ -30,7 +30,7 @@ class Read(unittest.TestCase):
                 "# no moment: at the end\n")
         reader = reader_of(text)
         self.assertEqual(([moment.silence for moment in reader.events], reader.silence), (["", "first"], "at the end"))
-        self.assertEqual(reader_of("# no moment:\n").silence, "no cause is told")
+        self.assertEqual(reader_of("# no moment:\n").silence, "no cause is given")
 
     def test_where_and_when(self):
         text = ("# clock utc\n# name A Flarm 7\n# name A another\n# origin 1 2 3\nmoment 0\n# origin -47.5 8.25 -0.5\n# origin 1 2 3\nown 0 0 0 0 100 0\nend\n"

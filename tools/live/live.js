@@ -61,7 +61,7 @@
     setText($("live").firstElementChild, words.trim());
   }
 
-  const sinceWhen = () => (ageOf(live.last) < -AHEAD ? `the last moment is of ${clockOf(live.last)} UTC, which is to come: a clock is wrong`
+  const sinceWhen = () => (ageOf(live.last) < -AHEAD ? `the last moment is of ${clockOf(live.last)} UTC, which is in the future: a clock is wrong`
     : `the last moment is of ${clockOf(live.last)} UTC, ${Math.floor(ageOf(live.last))} s ago`);
 
   function pastWords() {
@@ -77,7 +77,7 @@
 
   function programWords() {
     if (live.differs) return `${live.differs} (${live.differing} of ${live.agreed + live.differing} are)`;
-    if (!live.compares) return "no program decides beside";
+    if (!live.compares) return "no program runs beside the page";
     if (state.views[0].toml !== live.toml) return "the configuration was changed here: the program decides under another one";
     if (live.last - live.compared <= OLDEST) return `the program's report was the same ${live.agreed} times`;
     return live.compared ? `NO REPORT OF THE PROGRAM since ${clockOf(live.compared)} UTC` : "no report of the program yet";
@@ -216,7 +216,7 @@
     if (both.page === both.program) live.agreed += 1;
     else {
       live.differing += 1;
-      live.differs = `THE PROGRAM'S REPORT OF ${clockOf(time)} UTC IS ANOTHER`;
+      live.differs = `THE PROGRAM'S REPORT OF ${clockOf(time)} UTC DIFFERS`;
     }
   }
 
