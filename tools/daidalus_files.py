@@ -765,7 +765,7 @@ class ReportReader:
         place = {"now": at.alerts, "alert": at.alerts, "resolve": at.answers, "last": at.last, "recover": at.recover, "steady": at.steady,
                  "absent": at.absent}[word]
         if name in place and (word != "alert" or type(place[name]) is not int):
-            raise self.problem(f"stands twice in its moment: {'steady' if word == 'absent' else word} {name}")
+            raise self.problem(f"occurs twice in its moment: {'steady' if word == 'absent' else word} {name}")
         place[name] = said[place[name]] if word == "alert" else said
 
     def end(self, time, line):

@@ -258,7 +258,7 @@ class FromParameters(ToolTest):
         self.refused(TOP, "no alert level in it")
         self.refused("", "no parameter in it")
         self.refused("hello\n", "line 1 is no `key = value`: 'hello'")
-        self.refused(text + "turn_rate = 2\n", "turn_rate stands twice")
+        self.refused(text + "turn_rate = 2\n", "turn_rate occurs twice")
         self.assertEqual(self.tool("from_parameters", "nothing")[0], 7)
 
     def test_the_smallest_step_is_taken(self):

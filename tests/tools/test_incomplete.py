@@ -166,7 +166,7 @@ class SteadyAlerts(ToolTest):
         rows = self.tool("table", "aircraft", path)[1].splitlines()
         self.assertEqual([row for row in rows if row.startswith("1,2,")], ["1,2,B,0,0,,0,,", "1,2,A,,,,3,now alert,absent"])
         self.assertEqual([self.tool(*words, path)[0] for words in (["summary"], ["draw"], ["compare", path])], [0, 0, 0])
-        for line, part in (("steady B 2 absent", "calls B absent, of which a line `now` stands before it"), ("steady A 3 absent", "stands twice in its moment: steady A")):
+        for line, part in (("steady B 2 absent", "calls B absent, of which a line `now` stands before it"), ("steady A 3 absent", "occurs twice in its moment: steady A")):
             status, _, said = self.tool("summary", self.write("c.report", open(path).read().replace("steady A 3 absent\n", f"steady A 3 absent\n{line}\n")))
             self.assertEqual(status, 4)
             self.assert_one_line(said, part)

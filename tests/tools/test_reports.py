@@ -56,7 +56,7 @@ NO_REPORTS = (("", "it is empty"), ("hello\n", "line 1 is no line of a report th
               (f"moment {'1' * 5000}\n", "line 1 is no line"), (f"refused {'1' * 5000} 3\n", "line 1 is no line"),
               ("moment 0\ngs 3000 700000000000000000000 0\n", "line 2 is no line"),
               (f"moment 0\nnow {'A' * 59} 0\n", "line 2 is no line"), (f"moment 0\nnow {'A' * 60} 0{'1' * 9}\n", "line 2 is no line"),
-              *((REPORT.replace(f"{line}\n", f"{line}\n{more}\n"), f"stands twice in its moment: {' '.join(more.split()[:2])}\n") for line, more in TWICE),
+              *((REPORT.replace(f"{line}\n", f"{line}\n{more}\n"), f"occurs twice in its moment: {' '.join(more.split()[:2])}\n") for line, more in TWICE),
               ("x" * 99, "line 1 is no line of a report there: 'xxx"), (f"# {'x' * 99}\n", "a report has no comments"))
 
 

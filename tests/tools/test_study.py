@@ -120,10 +120,10 @@ class Texts(Studies):
         for old, new, part in (("own 0", "me 0", "line 2: no line begins with 'me'"), (" 1000 0\nat", " 1000\nat", "line 2: the form is: own X Y"),
                                ("90 1000", "360 1000", "line 2: 360 is not in 0..359"), ("at 3 own", "at 3 C", "line 3: 'C' has no line"),
                                ("track 100", "alt 100", "line 3: 'alt' is none of track, gs, vs"), ("intruder A", "intruder own", "line 4: own is the ownship's name"), ("intruder A", "intruder a b", "line 4: the form is"),
-                               ("way B 0 0 900 5500", "intruder A 0 0 0 0 0 0", "line 5: A stands twice"),
+                               ("way B 0 0 900 5500", "intruder A 0 0 0 0 0 0", "line 5: A occurs twice"),
                                ("way B 10", "way B 0", "line 6: the seconds of an aircraft's ways do not rise"), ("way B 10", "way A 10", "line 6: A has a line"),
                                ("way B 10 1000 900 5400\n", "", "line 6: an aircraft has one `way` alone"), ("encounter 4 10", "encounter 4 0", "line 1: 0 is not in 1..3600"),
-                               ("end\n", "", "has no line `end`"), ("end\n", f"end\n{self.GOOD}", "line 8: encounter 4 stands twice"), ("3 near", "3 n/r", "'n/r' is no name"),
+                               ("end\n", "", "has no line `end`"), ("end\n", f"end\n{self.GOOD}", "line 8: encounter 4 occurs twice"), ("3 near", "3 n/r", "'n/r' is no name"),
                                ("own 0 0 5000 90 1000 0\nat 3 own track 100 2\n", "", "has no ownship"), ("end\n", "end\nend\n", "line 8: it stands in no encounter")):
             text = self.GOOD.replace(old, new, 1)
             self.assertNotEqual(text, self.GOOD)
@@ -159,9 +159,9 @@ class Texts(Studies):
             return str(fault.exception)
 
         for text, part in (("a,b\n", "its first line names no column, or several, for time, x, y, z"), ("t,x,y,z\n0,0,0,no\n", "line 2 is no row of numbers"),
-                           ("t,x,y,z\n0,0,0,0\n1,0,0,0\n", "has one aircraft alone"), ("ac,t,x,y,z\n1,0,0,0,0\n1,0,0,0,0\n", "line 3: the times of an aircraft do not rise"),
-                           ("ac,t,x,y,z\n1,0,0,0,0\n1,9,0,0,0\n2,0,0,0,0\n", "aircraft 2 has one waypoint alone"),
-                           ("ac,t,x,y,z\n1,0,0,0,0\n1,9,0,0,0\n2,9,0,0,0\n2,19,0,0,0\n", "not there at the same time for a second")):
+                           ("t,x,y,z\n0,0,0,0\n1,0,0,0\n", "has only one aircraft"), ("ac,t,x,y,z\n1,0,0,0,0\n1,0,0,0,0\n", "line 3: the times of an aircraft do not rise"),
+                           ("ac,t,x,y,z\n1,0,0,0,0\n1,9,0,0,0\n2,0,0,0,0\n", "aircraft 2 has only one waypoint"),
+                           ("ac,t,x,y,z\n1,0,0,0,0\n1,9,0,0,0\n2,9,0,0,0\n2,19,0,0,0\n", "not there at the same time for a whole second")):
             self.assertIn(part, fault_of(text))
         self.assertIn("has no aircraft 3", fault_of("ac,t,x,y,z\n1,0,0,0,0\n1,9,0,0,0\n2,0,0,0,0\n2,9,0,0,0\n", "3"))
 
@@ -214,14 +214,14 @@ class Sums(Studies):
     def test_gaps_doubles_and_what_was_cut_are_refused(self):
         self.assertEqual([it["encounter"] for it in rows.read_rows(self.write("r.csv", self.rows(4, 5, 6)))], [4, 5, 6])
         whole = self.rows(4, 5, 6)
-        for text, part in ((self.rows(4, 6), "encounter 5 is missing: did a shard fail?"), (self.rows(4, 5, 5, 6), "line 4: encounter 5 stands twice"),
+        for text, part in ((self.rows(4, 6), "encounter 5 is missing: did a shard fail?"), (self.rows(4, 5, 5, 6), "line 4: encounter 5 occurs twice"),
                            (whole.replace(rows.HEAD, ""), "is the first shard missing?"), (whole[:-3], "ends within a line"), (rows.HEAD, "there is no row"),
                            (whole + rows.HEAD + self.rows(7), "is no row"), (whole.replace("5,all", "x,all"), "line 3 is no row"), (whole.replace(",2,", ",2,2,", 1), "line 2 is no row")):
             with self.assertRaises(Problem) as fault:
                 rows.read_rows(self.write("r.csv", text))
             self.assertIn(part, str(fault.exception))
         self.refused(4, "encounter 5 is missing", "sum", self.write("r.csv", self.rows(4, 6)))
-        self.refused(4, "there are 3 encounters in place of 4: did the last shard fail?", "sum", "--count", "4", self.write("r.csv", whole))
+        self.refused(4, "there are 3 encounters instead of 4: did the last shard fail?", "sum", "--count", "4", self.write("r.csv", whole))
 
     def test_a_table_with_a_column_for_each_file(self):
         one, two = self.write("one.csv", self.rows(0, 1)), self.write("two.csv", self.rows(0, 1, 2))

@@ -106,7 +106,7 @@ class Reading:
     def take_encounter(self, number, seconds, weight, stratum="all"):
         number = whole(number, 0, 2**31 - 1)
         if number in self.numbers:
-            raise Bad(f"encounter {number} stands twice")
+            raise Bad(f"encounter {number} occurs twice")
         if not STRATUM.fullmatch(stratum):
             raise Bad(f"{stratum[:40]!r} is no name of a stratum: 1 to 24 letters, digits, . _ and -")
         self.numbers.add(number)
@@ -117,7 +117,7 @@ class Reading:
         if not NAME.fullmatch(name):
             raise Bad(f"{name[:40]!r} is no name: 1 to 8 letters, digits, _ and -")
         if name in self.by_name:
-            raise Bad(f"{name} stands twice")
+            raise Bad(f"{name} occurs twice")
         self.by_name[name] = it = Aircraft(name)
         if name == "own":
             self.now.own = it

@@ -36,7 +36,7 @@ def main():
     parser.add_argument("--count", type=int, metavar="N")
     given = parser.parse_args()
     if given.shards < 1:
-        parser.error("there is at least one shard")
+        parser.error("there must be at least one shard")
     from distributed import Client
     there = lambda path: path and os.path.abspath(path)
     words = {"study": there(given.study), "config": there(given.config), "encounters": there(given.encounters), "first": given.first, "count": given.count}

@@ -76,7 +76,7 @@ def read_rows(path, count=None):
         if None in words or None in words.values() or row["encounter"] is None or not row["weight"] or row["cause"] not in CAUSES:
             raise Problem(f"{path}: line {line} is no row of tools/study run", 4)
         if row["encounter"] in seen:
-            raise Problem(f"{path}: line {line}: encounter {row['encounter']} stands twice: was a shard taken twice?", 4)
+            raise Problem(f"{path}: line {line}: encounter {row['encounter']} occurs twice: was a shard taken twice?", 4)
         seen.add(row["encounter"])
         rows.append(row)
     if not rows:
@@ -85,5 +85,5 @@ def read_rows(path, count=None):
     if gap is not None:
         raise Problem(f"{path}: encounter {gap} is missing: did a shard fail?", 4)
     if count is not None and len(rows) != count:
-        raise Problem(f"{path}: there are {len(rows)} encounters in place of {count}: did the last shard fail?", 4)
+        raise Problem(f"{path}: there are {len(rows)} encounters instead of {count}: did the last shard fail?", 4)
     return rows

@@ -71,15 +71,15 @@ def encounter_of(path, name, number, tracks, more, own, seconds):
     where = f"{path}: encounter {name or number}"
     own = own or next(iter(tracks))
     if own not in tracks or len(tracks) < 2:
-        raise Problem(f"{where} has no aircraft {own}" if own not in tracks else f"{where} has one aircraft alone", 4)
+        raise Problem(f"{where} has no aircraft {own}" if own not in tracks else f"{where} has only one aircraft", 4)
     short = next((it for it, track in tracks.items() if len(track) < 2), None)
     if short is not None:
-        raise Problem(f"{where}: aircraft {short} has one waypoint alone", 4)
+        raise Problem(f"{where}: aircraft {short} has only one waypoint", 4)
     begin = max(track[0][0] for track in tracks.values())
     end = min(track[-1][0] for track in tracks.values())
     length = min(int(end - begin), seconds or int(end - begin))
     if length < 1:
-        raise Problem(f"{where}: its aircraft are not there at the same time for a second", 4)
+        raise Problem(f"{where}: its aircraft are not there at the same time for a whole second", 4)
     others = [Aircraft(f"A{place}", ways=ways_of(track, begin)) for place, (it, track) in enumerate((it for it in tracks.items() if it[0] != own), 1)]
     weight = max(1, round(more.get("weight", 1) * (WEIGHT_UNITS if "weight" in more else 1)))
     return Encounter(number, length, weight, more.get("stratum", "all"), Aircraft("own", ways=ways_of(tracks[own], begin)), others)
