@@ -6,7 +6,8 @@
     answerBoxes } = daa.art;
 
   /** The symbol of a level: an open diamond, a full diamond, a disc, a square, a square with a cross; without an answer a ring with ?.
-   *  That of an old report is paler, and its edge is dashed. */
+   *  That of an old report is paler, and its edge is dashed.
+   *  @type {(alert: ShownAlert, old: boolean) => string} */
   function symbol({ level, now, unknown }, old) {
     if (unknown) return UNKNOWN_SHAPE;
     const fill = `var(--l${level}-fill)`;
@@ -26,7 +27,8 @@
   const OWN_SHAPE = `<path fill="var(--own)" stroke="var(--ground)" d="M0 -17L3.5 -8L3.5 -2L17 5L17 8.5L3.5 4.5L2.8 12L7 15.5L7 18`
     + `L0 16L-7 18L-7 15.5L-2.8 12L-3.5 4.5L-17 8.5L-17 5L-3.5 -2L-3.5 -8Z"/>`;
 
-  /** What is known of an aircraft's place on the plan. */
+  /** What is known of an aircraft's place on the plan.
+   *  @type {(view: View, model: Model, one: Aircraft, place: number) => Sight} */
   function sighted(view, model, one, place) {
     const { g } = view;
     const alert = (model.said && model.said.aircraft[place]) || UNKNOWN;
@@ -43,23 +45,28 @@
     return { one, place, alert, p, off, shown, tip, end, miles, tag: heightTag(model.own, one), called: calledIn(model.traffic, one) };
   }
 
-  /** Labels of all aircraft, those that alert first, since they choose first. */
+  /** Labels of all aircraft, those that alert first, since they choose first.
+   *  @type {(view: View, model: Model, all: Sight[]) => void} */
   function labelled(view, model, all) {
     const { g } = view;
     const own = plan(view, model.own.x, model.own.y);
+    /** @type {(point: Point, r: number) => Box} */
     const boxOf = ({ x, y }, r) => ({ x: x - r, y: y - r, wide: 2 * r, tall: 2 * r });
     const tips = all.filter((it) => it.end === it.tip).map((it) => boxOf(it.tip, 6));
-    const boxes = [boxOf(own, 16), ...all.map((it) => boxOf(it.shown, 11)), ...tips, ...rangeWords(view, model).map((it) => it.box),
+    /** @type {{ box: Box }[]} */
+    const words = rangeWords(view, model);
+    const boxes = [boxOf(own, 16), ...all.map((it) => boxOf(it.shown, 11)), ...tips, ...words.map((it) => it.box),
       ...answerBoxes(view, model)];
     const lines = all.map((it) => ({ x1: it.shown.x, y1: it.shown.y, x2: it.end.x, y2: it.end.y }));
     const ahead = flown(model.own, vectorSeconds(view));
     const tip = within(g, own, plan(view, ahead.x, ahead.y));
     lines.push({ x1: own.x, y1: own.y, x2: tip.x, y2: tip.y });
     const labels = new daa.Labels({ ...g.centre, radius: g.radius - 1 }, boxes, lines);
-    const order = [...all].sort((a, b) => b.alert.level - a.alert.level || a.off - b.off || a.miles - b.miles);
+    const order = [...all].sort((a, b) => b.alert.level - a.alert.level || Number(a.off) - Number(b.off) || a.miles - b.miles);
     for (const it of order) it.label = labelOf(view, labels, it, `p:${it.called}` === view.chosen);
   }
 
+  /** @type {(view: View, labels: any, it: Sight, isChosen: boolean) => Label | null} */
   function labelOf(view, labels, { one, alert, off, shown, miles, tag }, isChosen) {
     const f = view.g.font;
     const matters = alert.level > 0 || isChosen;
@@ -76,6 +83,7 @@
     return { ...spot, words, told, line };
   }
 
+  /** @type {(g: Geometry, it: Sight) => string} */
   function drawLabel(g, { label, shown, alert }) {
     if (!label) return "";
     const anchor = label.align < 0 ? "end" : label.align > 0 ? "" : "mid";

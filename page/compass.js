@@ -4,42 +4,48 @@
 (function (root) {
   const { n, text, radians, wrap, widthOf, paint, edge, badge, diamond, angleOf, wordsOfBand, at, plan } = daa.art;
 
+  /** @type {(view: View, from: number, upto: number, inner: number, outer: number) => string} */
   function sector(view, from, upto, inner, outer) {
     const turn = upto - from;
     if (turn >= 359.99) return wholeRing(view.g.centre, inner, outer);
     const [a, b, c, d] = [at(view, from, outer), at(view, upto, outer), at(view, upto, inner), at(view, from, inner)];
     const large = turn > 180 ? 1 : 0;
+    /** @type {(radius: number, sweep: number, to: Point) => string} */
     const arc = (radius, sweep, to) => `A${n(radius)} ${n(radius)} 0 ${large} ${sweep} ${n(to.x)} ${n(to.y)}`;
     return `M${n(a.x)} ${n(a.y)}${arc(outer, 1, b)}L${n(c.x)} ${n(c.y)}${arc(inner, 0, d)}Z`;
   }
 
+  /** @type {(centre: Point, inner: number, outer: number) => string} */
   function wholeRing({ x, y }, inner, outer) {
+    /** @type {(r: number, to: number) => string} */
     const half = (r, to) => `A${n(r)} ${n(r)} 0 1 0 ${n(to)} ${n(y)}`;
     return [inner, outer].map((r) => `M${n(x - r)} ${n(y)}${half(r, x + r)}${half(r, x - r)}Z`).join("");
   }
 
-  /** The runs of the track candidates; those of one level that meet over north are drawn as one. */
+  /** The runs of the track candidates; those of one level that meet over north are drawn as one.
+   *  @type {(bands: Band[], step: number) => Band[]} */
   function runs(bands, step) {
     const all = bands.map((band) => ({ from: band.from - step / 2, upto: band.upto + step / 2, level: band.level }));
-    if (all.length > 1 && all[0].level === all[all.length - 1].level) {
-      const last = all.pop();
-      all[0] = { ...all[0], from: last.from - 360 };
-    }
-    return all;
+    const last = all[all.length - 1];
+    if (all.length < 2 || all[0].level !== last.level) return all;
+    return [{ ...all[0], from: last.from - 360 }, ...all.slice(1, -1)];
   }
 
   const OWN_RADIUS = 19; // of the ownship's symbol, with room round it
   const LEAST_OWN = 0.6; // so small it may become
 
-  /** How wide the horizontal threshold of the corrective level is, in points. */
+  /** How wide the horizontal threshold of the corrective level is, in points.
+   *  @type {(view: View, config: Configuration) => number} */
   const threshold = ({ g, range }, { resolve, levels }) => (levels[resolve - 1].dthr / 1000 / range) * g.radius;
 
-  /** How large the ownship's symbol is drawn: where the threshold's circle is small, so that it stands within it. */
+  /** How large the ownship's symbol is drawn: where the threshold's circle is small, so that it stands within it.
+   *  @type {(view: View, config: Configuration) => number} */
   const ownSize = (view, config) => {
     const share = threshold(view, config) / OWN_RADIUS;
     return share < LEAST_OWN ? 1 : Math.min(share, 1);
   };
 
+  /** @type {(view: View) => string} */
   function rose(view) {
     const { g } = view;
     const { x, y } = g.centre;
@@ -50,10 +56,12 @@
     return out;
   }
 
-  /** What the rings of the rose stand for, away from the ring's own answers; the boxes are also kept free of labels. */
+  /** What the rings of the rose stand for, away from the ring's own answers; the boxes are also kept free of labels.
+   *  @type {(view: View, model: Model) => { words: string, p: Point, box: Box }[]} */
   function rangeWords(view, model) {
     const { g } = view;
     const taken = answerBearings(model);
+    /** @type {(bearing: number) => boolean} */
     const isFree = (bearing) => taken.every((other) => Math.abs(wrap(bearing - other + 180) - 180) > 35);
     const bearing = [150, 210, 120, 240, 60, 300].map((it) => wrap(view.up + it)).find(isFree) ?? view.up + 150;
     return [1 / 3, 2 / 3].map((share) => {
@@ -64,6 +72,7 @@
     });
   }
 
+  /** @type {(view: View, model: Model) => string} */
   function ring(view, model) {
     const { g } = view;
     const { config, said } = model;
@@ -77,10 +86,11 @@
       if (run.level && long >= 1.8 * g.ringWidth) out += badgeOnRing(view, model, run);
     }
     if (!said) out += `<path d="${sector(view, 0, 360, g.radius, g.outer)}" fill="var(--unknown)" stroke="var(--line)" fill-rule="evenodd"/>`;
-    return out + ticks(view) + (said ? answersOnRing(view, model) : "");
+    return out + ticks(view) + (said ? answersOnRing(view, said) : "");
   }
 
-  /** The number of a run's level in its middle, or beside the track bug where that stands there. */
+  /** The number of a run's level in its middle, or beside the track bug where that stands there.
+   *  @type {(view: View, model: Model, run: Band) => string} */
   function badgeOnRing(view, { own }, run) {
     const { g } = view;
     const half = (run.upto - run.from) / 2;
@@ -92,6 +102,7 @@
     return badge(g, p.x, p.y, run.level);
   }
 
+  /** @type {(view: View) => string} */
   function ticks(view) {
     const { g } = view;
     let out = "";
@@ -108,7 +119,8 @@
     return out;
   }
 
-  function answersOnRing(view, { said }) {
+  /** @type {(view: View, said: Said) => string} */
+  function answersOnRing(view, said) {
     const { g } = view;
     const f = g.font;
     let out = "";
@@ -131,6 +143,7 @@
     return out;
   }
 
+  /** @type {(view: View, model: Model) => string} */
   function trails(view, model) {
     const { g } = view;
     let out = "";
@@ -145,20 +158,24 @@
       out += `<circle cx="${n(own.x)}" cy="${n(own.y)}" r="${n(r)}" fill="none" stroke="var(--own)" stroke-width="1.5" stroke-dasharray="5 4">`
         + `<title>dthr of level ${model.config.resolve}</title></circle>`;
     }
+    /** @type {(it: { words: string, p: Point }) => string} */
     const shown = ({ words, p }) => text(p.x, p.y + g.font * 0.36, words, `class="small mid halo" font-size="${g.font - 1}"`);
     return out + rangeWords(view, model).map(shown).join("");
   }
 
-  /** The bearings of the open tracks and of the recovery. */
+  /** The bearings of the open tracks and of the recovery.
+   *  @type {(model: Model) => number[]} */
   function answerBearings({ said }) {
     if (!said) return [];
     const { lower, upper } = said.resolve.track;
-    return [lower, upper, said.recover.track && said.recover.track.value].filter((it) => typeof it === "number");
+    const back = said.recover.track;
+    return [lower, upper, back && back !== "none" ? back.value : "none"].flatMap((it) => (typeof it === "number" ? [it] : []));
   }
 
   const ANSWER = 20; // how much more it costs to cover an answer than another text
 
-  /** The ring's own answers, which no label may cover. */
+  /** The ring's own answers, which no label may cover.
+   *  @type {(view: View, model: Model) => Box[]} */
   function answerBoxes(view, model) {
     const f = view.g.font;
     return answerBearings(model).map((bearing) => {

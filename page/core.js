@@ -4,6 +4,7 @@
  * All that is said of a moment is said by the engine's report: nothing of it is computed here. Numbers are those of the
  * state lines: whole; 0.001 NM, 0.1 kt, ft, ft/min, degrees, s. */
 "use strict";
+/** @type {(root: Root) => void} */
 function daaCore(root) {
   // ---- The structs of crates/daa_c/include/daidalus.h. These lists are their fields in their order, and the keys that a
   // configuration may have: a new key is added to its list here, to OPTIONAL if a text may leave it out, and to RANGES of
@@ -16,6 +17,7 @@ function daaCore(root) {
   const LEVEL = ["dthr", "zthr", "tthr", "tcoa", "lookahead", "alert", "tcpa", "tau", "tep"];
   const RECOVERY = ["hdist", "vdist", "nearest"];
   const MOST_LEVELS = 4;
+  /** @type {(name: string, keys: string[]) => string[]} */
   const under = (name, keys) => keys.map((key) => `${name}.${key}`);
   /** Each number of struct daa_config, of 64 bits, in its order. */
   const CONFIG = [...FIRST, ...under("gs", GRID), ...under("vs", GRID), ...under("alt", GRID),
@@ -24,7 +26,9 @@ function daaCore(root) {
   /** Keys that a text may leave out, and which then are 0. */
   const OPTIONAL = ["last_times", "tcpa", "tau", "tep", "nearest"];
   /** Each number of struct daa_own, and those of struct daa_traffic after its identifier, of 32 bits. */
+  /** @type {OwnField[]} */
   const OWN = ["x", "y", "alt", "trk", "gs", "vs"];
+  /** @type {TrafficField[]} */
   const TRAFFIC = ["x", "y", "alt", "vx", "vy", "vs", "age"];
   const ID_SIZE = 8;
   const FIELDS = ["", "x", "y", "alt", "trk", "gs", "vs", "vx", "vy", "age"];
@@ -33,8 +37,9 @@ function daaCore(root) {
 
   const MOST_AIRCRAFT = 64;
   const LITTLE_ENDIAN = true; // as the module has its numbers
-  const SIZES = { config: 8 * CONFIG.length, own: 4 * OWN.length, traffic: ID_SIZE + 4 * TRAFFIC.length, fault: 24 };
-  SIZES.lines = 4 * LINES.length + SIZES.own + 8 + MOST_AIRCRAFT * SIZES.traffic;
+  const [OWN_SIZE, TRAFFIC_SIZE] = [4 * OWN.length, ID_SIZE + 4 * TRAFFIC.length];
+  const SIZES = { config: 8 * CONFIG.length, own: OWN_SIZE, traffic: TRAFFIC_SIZE, fault: 24,
+    lines: 4 * LINES.length + OWN_SIZE + 8 + MOST_AIRCRAFT * TRAFFIC_SIZE };
   const LONGEST_CONFIG = 65536;
   const LONGEST_LINE = 512; // bytes; a state line that is longer is too long by far, as its first bytes show
   const LONGEST_REPORT = 131072; // bytes; the header says how many are always enough, and these are more
@@ -44,6 +49,7 @@ function daaCore(root) {
   const [BLANK, TABULATOR, NUMBER_SIGN] = [32, 9, 35];
   const OPEN_AT_THE_END = 14;
 
+  /** @type {Record<number, string>} */
   const CAUSES = {
     1: "the text has more than 65536 bytes",
     2: "the text is no TOML",
@@ -62,7 +68,8 @@ function daaCore(root) {
 
   /** What the engine refuses: its code; of a configuration the sentence and the line, of states which number of whom. */
   class Refused extends Error {
-    constructor(code, { why = "", line = 0, fault = null } = {}) {
+    /** @param {number} code */
+    constructor(code, { why = "", line = 0, fault = /** @type {Fault | null} */ (null) } = {}) {
       super(why || CAUSES[code] || `code ${code}`);
       Object.assign(this, { code, line, fault });
     }
@@ -71,8 +78,10 @@ function daaCore(root) {
   /** The engine stopped in a call, as no call should; it has been made anew since. */
   class Stopped extends Error {}
 
+  /** @type {(line: Uint8Array) => boolean} */
   const isComment = (line) => line[line.findIndex((byte) => byte !== BLANK && byte !== TABULATOR)] === NUMBER_SIGN;
 
+  /** @type {(one: Uint8Array, other: Uint8Array) => Uint8Array} */
   function joined(one, other) {
     const both = new Uint8Array(one.length + other.length);
     both.set(one);
@@ -80,22 +89,29 @@ function daaCore(root) {
     return both;
   }
 
-  /** What times are, by a comment `# clock utc` or `# clock day`; nothing where a line is none. */
+  /** What times are, by a comment `# clock utc` or `# clock day`; nothing where a line is none.
+   *  @type {(line: Uint8Array) => string} */
   const clockIn = (line) => (isComment(line) ? /^#[ \t]+clock[ \t]+(utc|day)$/.exec(new TextDecoder().decode(line).trim())?.[1] ?? "" : "");
 
-  /** A line that is a comment of a moment, as docs/FORMATS.md has them: whom it lacks, or where it is. */
+  /** A line that is a comment of a moment, as docs/FORMATS.md has them: whom it lacks, or where it is.
+   *  @type {(line: Uint8Array) => string[]} */
   function commentIn(line) {
     if (!isComment(line)) return [];
     const text = new TextDecoder().decode(line).trim();
     return /^#[ \t]+(lacks|origin)[ \t]/.test(text) ? [text] : [];
   }
 
-  /** Whom a moment lacks, and why, by its comments `# lacks ID WHY`. */
+  /** Whom a moment lacks, and why, by its comments `# lacks ID WHY`.
+   *  @type {(moment: { comments?: string[] }) => Lack[]} */
   function lacksOf({ comments = [] }) {
-    return comments.map((text) => /^#[ \t]+lacks[ \t]+(\S+)[ \t]*(.*)$/.exec(text)).filter(Boolean).map(([, id, why]) => ({ id, why }));
+    return comments.flatMap((text) => {
+      const found = /^#[ \t]+lacks[ \t]+(\S+)[ \t]*(.*)$/.exec(text);
+      return found ? [{ id: found[1], why: found[2] }] : [];
+    });
   }
 
-  /** Why there is no moment, by a comment `# no moment: WHY`; nothing where a line is none. */
+  /** Why there is no moment, by a comment `# no moment: WHY`; nothing where a line is none.
+   *  @type {(line: Uint8Array) => string} */
   function silenceIn(line) {
     const found = isComment(line) && /^#[ \t]+no[ \t]+moment:[ \t]*(.*)$/.exec(new TextDecoder().decode(line).trim());
     return found ? found[1] || "no cause is given" : "";
@@ -107,18 +123,22 @@ function daaCore(root) {
     /** @type {WebAssembly.Module} */ module;
     /** @type {number} */ size;
     /** @type {TextDecoder} */ decoder;
+    // What `renew` makes:
     /** @type {any} */ calls;
-    /** @type {boolean} */ is64;
-    /** @type {Record<string, number>} */ places;
-    /** @type {DataView} */ view;
-    /** @type {Uint8Array} */ bytes;
+    is64 = false;
+    /** @type {Record<string, number>} */ places = {};
+    view = new DataView(new ArrayBuffer(0));
+    bytes = new Uint8Array(0);
 
-    /** An engine over the bytes of a module. */
+    /** An engine over the bytes of a module.
+     *  @type {(bytes: Uint8Array) => Promise<Engine>} */
     static async open(bytes) {
       if (!compiled.has(bytes)) compiled.set(bytes, WebAssembly.compile(bytes));
       return new Engine(await compiled.get(bytes), bytes.length);
     }
 
+    /** @param {WebAssembly.Module} module
+     *  @param {number} size */
     constructor(module, size) {
       this.module = module;
       this.size = size;
@@ -131,6 +151,7 @@ function daaCore(root) {
       const { exports } = /** @type {any} */ (new WebAssembly.Instance(this.module, {}));
       const base = exports.__heap_base.value;
       let at = Math.ceil(Number(base) / 64) * 64;
+      /** @type {(bytes: number) => number} */
       const room = (bytes) => {
         const place = at;
         at += Math.ceil(bytes / 64) * 64;
@@ -145,11 +166,13 @@ function daaCore(root) {
       this.bytes = new Uint8Array(exports.memory.buffer);
     }
 
-    /** A pointer or a length, as the module takes it. */
+    /** A pointer or a length, as the module takes it.
+     *  @type {(number: number) => number | bigint} */
     word(number) {
       return this.is64 ? BigInt(number) : number;
     }
 
+    /** @type {(name: string, ...words: (number | bigint)[]) => any} */
     call(name, ...words) {
       try {
         return this.calls[name](...words);
@@ -162,11 +185,14 @@ function daaCore(root) {
 
     // ---- a configuration
 
-    /** The configuration of a text of TOML, of bytes. Codes 1 to 5 are found here, 6 to 8 by the engine's check. */
+    /** The configuration of a text of TOML, of bytes. Codes 1 to 5 are found here, 6 to 8 by the engine's check.
+     *  @type {(toml: Uint8Array) => Config} */
     read(toml) {
       if (toml.length > LONGEST_CONFIG) throw new Refused(1);
       const document = daa.readToml(toml);
+      /** @type {{ code: number, why: string, line?: number }[]} */
       const faults = daa.faultsOf(document);
+      /** @type {(code: number) => Refused} */
       const sentence = (code) => new Refused(code, faults.find((fault) => fault.code === code));
       if (faults.length && faults[0].code < 6) throw sentence(faults[0].code);
       const numbers = daa.numbersOf(document);
@@ -176,10 +202,12 @@ function daaCore(root) {
     }
 
     /** The engine's code of a configuration's numbers. Its struct has room for four levels. Those of more are asked four by
-     *  four, since a number out of its range comes before their count. */
+     *  four, since a number out of its range comes before their count.
+     *  @type {(numbers: Numbers) => number} */
     check(numbers) {
       const { count } = numbers;
       for (let first = MOST_LEVELS; first < count; first += MOST_LEVELS) {
+        /** @type {Numbers} */
         const rest = { ...numbers, resolve: 1n, count: BigInt(Math.min(Number(count) - first, MOST_LEVELS)) };
         for (const level of [1, 2, 3, 4]) for (const key of LEVEL) rest[`level${level}.${key}`] = numbers[`level${first + level}.${key}`];
         if (this.checkStruct(rest) === 6) return 6;
@@ -188,11 +216,13 @@ function daaCore(root) {
       return this.checkStruct({ ...numbers, count: BigInt(MOST_LEVELS) }) === 6 ? 6 : 7;
     }
 
+    /** @type {(numbers: Numbers) => number} */
     checkStruct(numbers) {
       this.bytes.set(this.structOf(numbers), this.places.config);
       return this.call("daa_check", this.word(this.places.config));
     }
 
+    /** @type {(numbers: Numbers) => Uint8Array} */
     structOf(numbers) {
       const bytes = new Uint8Array(SIZES.config);
       const view = new DataView(bytes.buffer);
@@ -202,17 +232,20 @@ function daaCore(root) {
 
     // ---- state lines
 
-    /** The ended moments and the refused lines of state lines, of bytes, in their order. */
+    /** The ended moments and the refused lines of state lines, of bytes, in their order.
+     *  @type {(bytes: Uint8Array) => StatesEvent[]} */
     readStates(bytes) {
       return [...new StateLines(this).take(bytes, { isLast: true })];
     }
 
+    /** @type {(line: Uint8Array) => number} */
     takeLine(line) {
       const { places } = this;
       this.bytes.set(line, places.line);
       return this.call("daa_line", this.word(places.line), this.word(line.length), this.word(places.lines));
     }
 
+    /** @type {(name: string) => number} */
     lineNumber(name) {
       return this.view.getUint32(this.places.lines + 4 * LINES.indexOf(name), LITTLE_ENDIAN);
     }
@@ -222,6 +255,7 @@ function daaCore(root) {
       const { view, bytes, decoder } = this;
       const ownAt = this.places.lines + 4 * LINES.length;
       const countAt = ownAt + SIZES.own;
+      /** @type {(at: number, names: string[]) => any} */
       const some = (at, names) => Object.fromEntries(names.map((name, i) => [name, view.getInt32(at + 4 * i, LITTLE_ENDIAN)]));
       const traffic = Array.from({ length: Number(view.getBigUint64(countAt, LITTLE_ENDIAN)) }, (_, place) => {
         const at = countAt + 8 + SIZES.traffic * place;
@@ -233,10 +267,12 @@ function daaCore(root) {
 
     // ---- a moment
 
-    /** The text of a moment's report. Throws Refused or Stopped. */
+    /** The text of a moment's report. Throws Refused or Stopped.
+     *  @type {(config: { bytes: Uint8Array }, moment: { time: number, own: Own, traffic: Aircraft[] }) => string} */
     report(config, { time, own, traffic }) {
       if (traffic.length > MOST_AIRCRAFT) throw new Refused(18);
       const { places, view } = this;
+      /** @type {(number: number) => number | bigint} */
       const w = (number) => this.word(number);
       this.bytes.set(config.bytes, places.config);
       this.putMoment(own, traffic);
@@ -247,6 +283,7 @@ function daaCore(root) {
       return this.decoder.decode(this.bytes.subarray(places.report, places.report + length));
     }
 
+    /** @type {(own: Own, traffic: Aircraft[]) => void} */
     putMoment(own, traffic) {
       const { places, view, bytes } = this;
       OWN.forEach((name, i) => view.setInt32(places.own + 4 * i, own[name], LITTLE_ENDIAN));
@@ -257,12 +294,15 @@ function daaCore(root) {
       });
     }
 
-    /** What is wrong with the states that were put last. */
+    /** What is wrong with the states that were put last.
+     *  @type {(count: number) => Fault} */
     fault(count) {
       const { places, view } = this;
+      /** @type {(number: number) => number | bigint} */
       const w = (number) => this.word(number);
       const at = places.fault;
       this.call("daa_fault", w(places.own), w(places.traffic), w(count), w(at));
+      /** @type {(place: number) => number} */
       const number = (place) => view.getInt32(at + 4 * place, LITTLE_ENDIAN);
       return { code: number(0), field: FIELDS[number(1)], least: number(2), greatest: number(3),
         place: Number(view.getBigUint64(at + 16, LITTLE_ENDIAN)) };
@@ -273,19 +313,21 @@ function daaCore(root) {
    *  feeds, and comments are read. An engine reads one text at a time. */
   class StateLines {
     /** @type {Engine} */ engine;
-    /** @type {number} */ number;
-    /** @type {string[]} */ comments;
-    /** @type {Uint8Array} */ rest;
-    /** @type {string} */ clock;
-    /** @type {string} */ silence;
+    number = 0;
+    /** @type {string[]} */ comments = [];
+    rest = new Uint8Array(0);
+    clock = "";
+    silence = "";
 
+    /** @param {Engine} engine */
     constructor(engine) {
       const { bytes, places } = engine;
-      Object.assign(this, { engine, number: 0, comments: [], rest: new Uint8Array(0), clock: "", silence: "" });
+      this.engine = engine;
       bytes.fill(0, places.lines, places.lines + SIZES.lines);
     }
 
-    /** The events of a piece: `moment`, or the number of a line that is `refused` and its code. */
+    /** The events of a piece: `moment`, or the number of a line that is `refused` and its code.
+     *  @type {(piece: Uint8Array, how?: { isLast?: boolean }) => Iterable<StatesEvent>} */
     *take(piece, { isLast = false } = {}) {
       const bytes = this.rest.length ? joined(this.rest, piece) : piece;
       let start = 0;
@@ -300,6 +342,7 @@ function daaCore(root) {
       if (isLast && this.engine.lineNumber("opened")) yield { refused: this.number + 1, code: OPEN_AT_THE_END };
     }
 
+    /** @type {(line: Uint8Array) => Iterable<StatesEvent>} */
     *line(line) {
       const { engine } = this;
       this.number += 1;
@@ -323,10 +366,11 @@ function daaCore(root) {
     /** @type {Uint8Array} */ bytes;
     /** @type {number} */ resolve;
     /** @type {Grids} */ grids;
-    /** @type {object | null} */ recovery;
+    /** @type {Configuration["recovery"]} */ recovery;
     /** @type {boolean} */ lastTimes;
-    /** @type {object[]} */ levels;
+    /** @type {Level[]} */ levels;
 
+    /** @param {Uint8Array} bytes */
     constructor(bytes) {
       const view = new DataView(bytes.buffer, bytes.byteOffset);
       const all = Object.fromEntries(CONFIG.map((name, i) => [name, Number(view.getBigInt64(8 * i, LITTLE_ENDIAN))]));
@@ -346,14 +390,18 @@ function daaCore(root) {
 
   const KINDS = ["track", "gs", "vs", "alt"];
 
-  /** What the report of a moment says. */
+  /** What the report of a moment says.
+   *  @type {(text: string) => Said} */
   function readReport(text) {
+    /** @type {any} */
     const said = { text, time: 0, aircraft: [], bands: { track: [], gs: [], vs: [], alt: [] }, resolve: {}, last: {}, recover: {} };
-    for (const line of text.split("\n")) takeReportLine(said, ...line.split(" "));
+    for (const line of text.split("\n")) takeReportLine(said, line.split(" "));
     return said;
   }
 
-  function takeReportLine(said, word, ...rest) {
+  /** @type {(said: any, words: string[]) => void} */
+  function takeReportLine(said, [word, ...rest]) {
+    /** @type {(field: string) => Answer} */
     const answer = (field) => (field === "keep" || field === "none" ? field : Number(field));
     if (word === "moment") said.time = Number(rest[0]);
     else if (word === "now") said.aircraft.push({ id: rest[0], now: Number(rest[1]), level: 0, first: null });
@@ -367,9 +415,17 @@ function daaCore(root) {
     else if (word === "recover") said.recover[rest[0]] = rest[1] === "none" ? "none" : { after: Number(rest[1]), value: Number(rest[2]) };
   }
 
+  /** What cannot be missing.
+   *  @type {<T>(value: T | null | undefined) => T} */
+  function must(value) {
+    if (value === null || value === undefined) throw new Error("something is missing that cannot be");
+    return value;
+  }
+
+  /** @type {(text: string) => Uint8Array} */
   const bytesOf = (text) => new TextEncoder().encode(text);
 
   root.daa = Object.assign(root.daa || {}, { Engine, StateLines, Config, Refused, Stopped, TOP, GRID, LEVEL, RECOVERY, OPTIONAL, KINDS, CAUSES,
-    MOST_AIRCRAFT, readReport, bytesOf, lacksOf });
+    MOST_AIRCRAFT, must, readReport, bytesOf, lacksOf });
 }
 daaCore(globalThis);

@@ -5,10 +5,12 @@
  * text of the functions that it needs. */
 "use strict";
 
-/** What runs in the worker: it opens the engine, or says that it cannot, and answers each question in its turn. */
+/** What runs in the worker: it opens the engine, or says that it cannot, and answers each question in its turn.
+ *  @type {(scope: any) => void} */
 function daaWorker(scope) {
+  /** @type {any} */
   let engine = null;
-  scope.onmessage = async ({ data }) => {
+  scope.onmessage = async (/** @type {MessageEvent} */ { data }) => {
     if (data.module) {
       engine = await daa.Engine.open(data.module).catch(() => null);
       scope.postMessage(engine ? { ready: true } : { failed: true });
@@ -16,16 +18,18 @@ function daaWorker(scope) {
   };
 }
 
+/** @type {(root: Root) => void} */
 function daaAnswer(root) {
   /** The answer to a question, in plain values: of a moment the report, what was refused, or that the engine stopped; of a part of a recording its
-   *  notes, packed. */
+   *  notes, packed.
+   *  @type {(engine: any, question: Question) => Told} */
   root.daa.answerOf = (engine, { config, moment, part, first, isWhole }) => {
     const before = performance.now();
     try {
       if (part && isWhole) return { texts: root.daa.reportsOf(engine, config, part) };
       if (part) return { notes: root.daa.notesOf(engine, config, part, first), took: performance.now() - before };
       return { text: engine.report(config, moment), took: performance.now() - before };
-    } catch (problem) {
+    } catch (/** @type {any} */ problem) {
       if (problem instanceof daa.Refused) return { code: problem.code, fault: problem.fault };
       if (problem instanceof daa.Stopped) return { stopped: problem.message };
       return { stopped: `The engine stopped (${problem}).` };
@@ -42,11 +46,12 @@ daaAnswer(globalThis);
     /** @type {Uint8Array} */ module;
     /** @type {any[]} */ waiting;
     /** @type {number} */ number;
-    /** @type {Worker | null} */ worker;
+    /** @type {Worker | null} */ worker = null;
     /** @type {any} */ busy;
-    /** @type {boolean} */ ready;
+    ready = false;
     /** @type {any} */ engine;
 
+    /** @param {Uint8Array} module */
     constructor(module) {
       this.module = module;
       this.waiting = [];
@@ -76,8 +81,9 @@ daaAnswer(globalThis);
       if (this.worker) this.worker.terminate();
       if (this.busy) this.waiting.unshift(this.busy);
       Object.assign(this, { worker: null, ready: false, busy: null });
+      /** @type {(problem: Error) => { report(): never }} */
       const none = ({ message }) => ({ report() { throw new daa.Stopped(`The engine can't be opened: ${message}.`); } });
-      daa.Engine.open(this.module).catch(none).then((engine) => { this.engine = engine; this.opened(); });
+      daa.Engine.open(this.module).catch(none).then((/** @type {any} */ engine) => { this.engine = engine; this.opened(); });
     }
 
     opened() {
@@ -85,6 +91,7 @@ daaAnswer(globalThis);
       this.next();
     }
 
+    /** @type {(question: Question) => Promise<Told | null>} */
     ask(question) {
       return new Promise((answer) => {
         this.waiting.push({ question, answer });
@@ -100,6 +107,7 @@ daaAnswer(globalThis);
       else setTimeout(() => this.answered({ number, answer: daa.answerOf(this.engine, question) }));
     }
 
+    /** @type {(answered: { number: number, answer: Told }) => void} */
     answered({ number, answer }) {
       if (!this.busy || this.busy.number !== number) return;
       const { answer: tell } = this.busy;
@@ -124,7 +132,8 @@ daaAnswer(globalThis);
     }
   }
 
-  /** A worker that runs some of the page's functions, each over its own global object, and lines of script. */
+  /** A worker that runs some of the page's functions, each over its own global object, and lines of script.
+   *  @type {(parts: (Function | string)[], main: Function) => Worker} */
   function workerOf(parts, main) {
     const text = parts.map((part) => (typeof part === "string" ? `${part}\n` : `(${part})(self);\n`)).join("");
     const script = `"use strict";\n${text}(${main})(self);`;

@@ -9,7 +9,8 @@
 
   const LAYERS = ["rose", "ring", "trails", "paths", "tapes", "answers", "legend", "head", "handles"];
 
-  /** Draws a display: an svg element, whose layers are written anew only where they change. */
+  /** Draws a display: an svg element, whose layers are written anew only where they change.
+   *  @type {(svg: Picture, look: Look, model: Model, size: Size) => View} */
   function draw(svg, look, model, { width, height }) {
     const g = geometryOf(width, height, model);
     const view = { ...look, g };
@@ -19,6 +20,7 @@
       svg.daa = { layers: {}, handles: new Map() };
     }
     svg.setAttribute("viewBox", `0 0 ${width} ${height}`);
+    /** @type {(name: string, content: string) => void} */
     const layer = (name, content) => {
       if (svg.daa.layers[name] === content) return;
       svg.daa.layers[name] = content;
@@ -28,7 +30,7 @@
     layer("ring", ring(view, model));
     layer("trails", trails(view, model));
     layer("paths", paths(view, model));
-    layer("tapes", TAPE_KINDS.map((kind) => tape(view, model, kind)).join(""));
+    layer("tapes", TAPE_KINDS.map((/** @type {TapeKind} */ kind) => tape(view, model, kind)).join(""));
     layer("answers", answers(view, model));
     layer("legend", legend(view, model));
     layer("head", head(view, model));
@@ -36,7 +38,8 @@
     return view;
   }
 
-  /** Puts the handles: elements that stay while they are held or focused. */
+  /** Puts the handles: elements that stay while they are held or focused.
+   *  @type {(svg: Picture, wanted: Handle[], chosen: string | null) => void} */
   function putHandles(svg, wanted, chosen) {
     const group = svg.querySelector("[data-layer=handles]");
     const kept = svg.daa.handles;
@@ -56,15 +59,16 @@
     }
   }
 
+  /** @type {(group: Element, kept: Map<string, SVGGElement>, handle: Handle, chosen: string | null) => void} */
   function putHandle(group, kept, { key, x, y, inside, label, value, level, number, least, most, isReached = true }, chosen) {
-    let it = kept.get(key);
-    if (!it) {
-      it = document.createElementNS("http://www.w3.org/2000/svg", "g");
+    const it = kept.get(key) ?? document.createElementNS("http://www.w3.org/2000/svg", "g");
+    if (!kept.has(key)) {
       Object.entries({ "data-key": key, role: "slider" }).forEach((pair) => it.setAttribute(...pair));
       kept.set(key, it);
       group.append(it);
     }
-    const set = (name, words) => { if (words !== undefined && it.getAttribute(name) !== String(words)) it.setAttribute(name, words); };
+    /** @type {(name: string, words: string | number | undefined) => void} */
+    const set = (name, words) => { if (words !== undefined && it.getAttribute(name) !== String(words)) it.setAttribute(name, String(words)); };
     set("transform", `translate(${n(x)} ${n(y)})`);
     set("tabindex", isReached ? "0" : "-1");
     set("aria-label", label);

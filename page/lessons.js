@@ -2,14 +2,17 @@
 /* A small library of encounters for teaching: each with a question, what the answers mean, and what happens when one is followed. The flights are
  * straight, except where `turns` says otherwise. No page is needed. */
 "use strict";
+/** @type {(root: Root) => void} */
 function daaLessons(root) {
   const RADIANS = Math.PI / 180;
   const OWN = { x: 0, y: 0, alt: 10000, trk: 0, gs: 3000, vs: 0 };
 
   /** An aircraft: where it is (NM east and north), its altitude (ft), track, ground speed (kt), vertical speed (ft/min). What it turns to from a
-   *  second on it turns to by three degrees a second. */
+   *  second on it turns to by three degrees a second.
+   *  @type {(id: string, place: Pair, alt: number, trk: number, knots: number, vs?: number, turns?: LessonAircraft["turns"]) => LessonAircraft} */
   const aircraft = (id, [east, north], alt, trk, knots, vs = 0, turns = null) => ({ id, east, north, alt, trk, knots, vs, turns });
 
+  /** @type {Record<string, Lesson>} */
   const LESSONS = {
     "lesson: head-on": {
       config: "three_levels", seconds: 120, at: 15, follow: ["track", "lower"], traffic: [aircraft("HEAD", [0.1, 16], 10000, 180, 300)],
@@ -62,7 +65,8 @@ function daaLessons(root) {
     },
   };
 
-  /** An aircraft's state at a second. */
+  /** An aircraft's state at a second.
+   *  @type {(one: LessonAircraft, second: number) => Aircraft} */
   function stateOf({ id, east, north, alt, trk, knots, vs, turns }, second) {
     let [x, y, track] = [1000 * east, 1000 * north, trk];
     for (let k = 0; k < second; k++) {
@@ -74,7 +78,8 @@ function daaLessons(root) {
     return { id, x: Math.round(x), y: Math.round(y), alt: Math.round(alt + (vs * second) / 60), vx, vy, vs, age: 0 };
   }
 
-  /** The moments of a lesson, one a second. */
+  /** The moments of a lesson, one a second.
+   *  @type {(lesson: Lesson) => Moment[]} */
   function momentsOf({ seconds, traffic }) {
     return Array.from({ length: seconds + 1 }, (_, time) => ({ time, own: { ...OWN, y: Math.round((OWN.gs * time) / 36) },
       traffic: traffic.map((one) => stateOf(one, time)), comments: [] }));

@@ -2,9 +2,10 @@
 /* What the words on a display mean, told where they stand: as a title, and after a click or a tap in a box beside it. */
 "use strict";
 (function (root) {
-  const { escape } = daa;
+  const { escape, element } = daa;
   const SHOWN = 9000; // ms: so long an explanation stays
 
+  /** @type {Record<string, string>} */
   const MEANINGS = {
     open: "Open: the nearest value on this side that is clear of the corrective level, and of every level above it, within the lookahead.",
     keep: "Keep: the present value is clear of the corrective level, so nothing has to change. This counts the aircraft that are known.",
@@ -16,13 +17,15 @@
     alert: "L and a number: the alert level of this aircraft, and in how many seconds its volume is violated.",
   };
 
-  /** Marks what is drawn as a word that is explained. */
+  /** Marks what is drawn as a word that is explained.
+   *  @type {(word: string, drawn: string) => string} */
   const explained = (word, drawn) => `<g data-word="${word}"><title>${escape(MEANINGS[word])}</title>${drawn}</g>`;
 
   /** Shows what a word means, near a point of the window. */
-  let late = null;
+  let late = 0;
+  /** @type {(word: string, at: Point) => void} */
   function explain(word, { x, y }) {
-    const box = document.getElementById("meaning");
+    const box = element("meaning");
     box.textContent = MEANINGS[word];
     box.hidden = false;
     const { width, height } = box.getBoundingClientRect();
@@ -33,14 +36,15 @@
   }
 
   function hide() {
-    document.getElementById("meaning").hidden = true;
+    element("meaning").hidden = true;
   }
 
   // What is held by the pointer takes its clicks, so where it went down counts, and that it went nowhere.
+  /** @type {(Point & { word: string }) | null} */
   let pressed = null;
   addEventListener("pointerdown", ({ target, clientX: x, clientY: y }) => {
     hide();
-    const word = target.closest?.("[data-word]")?.getAttribute("data-word");
+    const word = target?.closest?.("[data-word]")?.getAttribute("data-word");
     pressed = word ? { word, x, y } : null;
   }, { capture: true });
   addEventListener("pointerup", ({ clientX, clientY }) => {

@@ -3,7 +3,7 @@
 "use strict";
 (function () {
   const { ui } = daa;
-  const { Engine, Refused, Desk, MODELS, VIEW_HEIGHTS, draw, bytesOf } = daa;
+  const { Engine, Refused, Desk, MODELS, VIEW_HEIGHTS, must, draw, bytesOf } = daa;
   const { $, RANGES_NM, state, setText, setHtml, fill, download, changed, faultOf, lookOf, modelOf, chip } = ui;
   const PICTURE = { width: 1240, height: 760 };
   const FROM_A_LINK = "opened from a link, which holds this one moment";
@@ -12,14 +12,15 @@
 
   // ---- configurations
 
-  /** Gives a view the configuration of a text, or tells why it is refused. */
+  /** Gives a view the configuration of a text, or tells why it is refused.
+   *  @type {(place: number, text: string | Uint8Array, name: string) => boolean} */
   function configure(place, text, name) {
     const view = state.views[place];
     view.toml = typeof text === "string" ? text : new TextDecoder().decode(text);
     view.refusal = null;
     try {
       view.config = state.engine.read(typeof text === "string" ? bytesOf(text) : text);
-    } catch (problem) {
+    } catch (/** @type {any} */ problem) {
       if (!(problem instanceof Refused)) throw problem;
       view.refusal = problem;
       changed();
@@ -31,7 +32,8 @@
     return true;
   }
 
-  /** Takes a file's configuration; one that is refused is shown, so that its fault can be mended. */
+  /** Takes a file's configuration; one that is refused is shown, so that its fault can be mended.
+   *  @type {(bytes: Uint8Array, name: string, place: number) => boolean} */
   function loadConfig(bytes, name, place) {
     const taken = configure(place, bytes, name);
     $("which").value = String(place);
@@ -53,14 +55,16 @@
     setHtml($("levels"), refusal ? "" : config.levels.map((level, l) => `<li>${wordsOfLevel(level, l + 1, config.resolve)}</li>`).join(""));
   }
 
-  /** A level's volume and times in words. */
+  /** A level's volume and times in words.
+   *  @type {(level: Level, number: number, resolve: number) => string} */
   function wordsOfLevel(level, number, resolve) {
     const { dthr, zthr, tthr, tcoa, lookahead, alert } = level;
     return `${chip(number)} ${number === resolve ? "corrective, " : ""}${dthr / 1000} NM, ${zthr} ft, `
       + `${tthr} s of ${modelOfLevel(level)}, ${tcoa} s to co-altitude; alerts ${alert} s ahead, candidates ${lookahead} s`;
   }
 
-  const modelOfLevel = (level) => MODELS[Object.keys(MODELS).find((key) => level[key])] || "modified tau";
+  /** @type {(level: Level) => any} */
+  const modelOfLevel = (level) => Object.entries(MODELS).find(([key]) => level[/** @type {keyof Level} */ (key)])?.[1] ?? "modified tau";
 
   function showConfig() {
     $("toml").value = whichView().toml;
@@ -73,7 +77,7 @@
   });
   $("show-fault").addEventListener("click", () => {
     const lines = $("toml").value.split("\n");
-    const { line } = whichView().refusal;
+    const { line } = must(whichView().refusal); // its button is shown with it
     const start = lines.slice(0, line - 1).join("\n").length + (line > 1 ? 1 : 0);
     $("toml").focus();
     $("toml").setSelectionRange(start, start + (lines[line - 1] || "").length);
@@ -101,8 +105,10 @@
     return { states: daa.stateLines([state.current]), name, told, lacks, configs, look: state.views.map(({ look }) => look), compare };
   }
 
-  /** Whether a link's value has the form of what `linked` makes. */
+  /** Whether a link's value has the form of what `linked` makes.
+   *  @type {(held: any) => boolean} */
   function isLinked(held) {
+    /** @type {(list: any) => boolean} */
     const isForEachView = (list) => Array.isArray(list) && list.length === state.views.length && list.every(Boolean);
     return held && isForEachView(held.configs) && isForEachView(held.look);
   }
@@ -122,8 +128,10 @@
     if (!ui.loadStates(bytesOf(String(held.states)), String(held.name), told, String(held.lacks ?? ""))) return false;
     if (!told.includes(FROM_A_LINK)) state.told = [FROM_A_LINK, ...told];
     state.hash = hash;
-    held.configs.forEach(({ name, toml }, place) => configure(place, String(toml), String(name)));
-    held.look.forEach(({ auto, trackUp, paths, range, heights }, place) => Object.assign(state.views[place].look, {
+    /** @type {{ configs: Record<string, unknown>[], look: Record<string, any>[] }} */
+    const { configs, look } = held; // of a link that another page made
+    configs.forEach(({ name, toml }, place) => configure(place, String(toml), String(name)));
+    look.forEach(({ auto, trackUp, paths, range, heights }, place) => Object.assign(state.views[place].look, {
       auto: Boolean(auto), trackUp: Boolean(trackUp), paths: Boolean(paths), range: RANGES_NM.includes(range) ? range : 12,
       heights: VIEW_HEIGHTS.includes(heights) ? heights : 3000 }));
     state.compare = Boolean(held.compare);
@@ -157,14 +165,15 @@
   });
   addEventListener("hashchange", takeLink);
   document.body.addEventListener("click", (event) => { // the address keeps its link
-    if (!event.target.matches(".skip")) return;
+    if (!event.target?.matches(".skip")) return;
     event.preventDefault();
     document.querySelector(event.target.getAttribute("href")).focus();
   });
 
   // ---- pictures
 
-  /** A text of SVG in which each colour that the style sheet names is written out. */
+  /** A text of SVG in which each colour that the style sheet names is written out.
+   *  @type {(text: string) => string} */
   function withColours(text) {
     const probe = document.body.appendChild(document.createElement("i"));
     const done = text.replace(/var\((--[a-z0-9-]+)\)/g, (whole) => {
@@ -175,6 +184,7 @@
     return done;
   }
 
+  /** @type {(view: Display) => string} */
   function pictureOf(view) {
     const svg = document.createElementNS("http://www.w3.org/2000/svg", "svg");
     draw(svg, { ...lookOf(view), chosen: null }, modelOf(view), PICTURE);
@@ -185,6 +195,7 @@
     return withColours(new XMLSerializer().serializeToString(svg));
   }
 
+  /** @type {(view: Display, kind: string) => void} */
   function save(view, kind) {
     const text = pictureOf(view);
     const name = `daidalus-${state.current.time}`;
@@ -195,7 +206,7 @@
     const image = new Image();
     image.onload = () => {
       const canvas = Object.assign(document.createElement("canvas"), { width: PICTURE.width * 2, height: PICTURE.height * 2 });
-      canvas.getContext("2d").drawImage(image, 0, 0, canvas.width, canvas.height);
+      must(canvas.getContext("2d")).drawImage(image, 0, 0, canvas.width, canvas.height);
       canvas.toBlob((blob) => download(blob, `${name}.png`), "image/png");
     };
     image.src = `data:image/svg+xml;charset=utf-8,${encodeURIComponent(text)}`;
@@ -211,6 +222,7 @@
   /** A module of eight bytes and one memory of 64-bit addresses: a browser without them finds it not valid. */
   const hasMemory64 = () => WebAssembly.validate(new Uint8Array([0, 0x61, 0x73, 0x6d, 1, 0, 0, 0, 5, 3, 1, 4, 1]));
 
+  /** @type {(words: string) => void} */
   function tellMissing(words) {
     $("missing").hidden = false;
     $("missing").textContent = words;
@@ -226,7 +238,7 @@
     const module = daa.wasm();
     try {
       state.engine = await Engine.open(module);
-    } catch (problem) {
+    } catch (/** @type {any} */ problem) {
       tellMissing(`The engine can't be opened: ${problem.message}. ${MISSING}`);
       return;
     }
@@ -234,7 +246,8 @@
     document.body.insertAdjacentHTML("beforeend", `<svg width="0" height="0" aria-hidden="true" style="position:absolute">${shared}</svg>`);
     const look = () => ({ auto: true, trackUp: false, paths: false, range: 12, heights: 3000 });
     const [configs, encounters] = [Object.keys(daa.examples.configs), Object.keys(daa.examples.encounters)];
-    state.views = [0, 1].map(() => ({ look: look(), desk: new Desk(module), edition: 0 }));
+    const view = () => /** @type {any} */ ({ look: look(), desk: new Desk(module), edition: 0 }); // `configure` below gives it the rest
+    state.views = [view(), view()];
     state.surveys = [0, 1].map((place) => new ui.Survey(place, module));
     state.module = module;
     fill($("example"), [...encounters, ...Object.keys(daa.lessons)]);

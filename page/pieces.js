@@ -2,11 +2,13 @@
 /* How state lines and recordings become blocks of moments: at once, or piece by piece in a worker, so that a long recording is shown from its
  * first moment on and never stops the page. No page is needed. */
 "use strict";
+/** @type {(root: Root) => void} */
 function daaPieces(root) {
   const { Packer, StateLines } = root.daa;
   const MOST_NOTES = 5; // so many of the things that a moment lacks are told one by one
 
-  /** What a moment lacks in words: each thing, or of many the first few, and how many more. */
+  /** What a moment lacks in words: each thing, or of many the first few, and how many more.
+   *  @type {(things: string[], count: number, rest: string) => string} */
   function wordsOfLack(things, count, rest) {
     if (count <= MOST_NOTES + 1) return things.join("; ");
     return `${things.slice(0, MOST_NOTES).join("; ")}; ${count - MOST_NOTES} more ${rest}`;
@@ -14,18 +16,19 @@ function daaPieces(root) {
 
   /** State lines that come in pieces. */
   class StatesReading {
-    /** @type {any} */ lines;
-    /** @type {any} */ packer;
-    /** @type {string[]} */ refused;
-    /** @type {number} */ before;
-    /** @type {number} */ count;
-    /** @type {any} */ first;
+    packer = new Packer();
+    /** @type {string[]} */ refused = [];
+    before = 0;
+    count = 0;
+    /** @type {StatesEvent | null} */ first = null;
 
+    /** @param {any} engine */
     constructor(engine) {
-      Object.assign(this, { lines: new StateLines(engine), packer: new Packer(), refused: [], before: 0, count: 0, first: null });
+      this.lines = new StateLines(engine);
     }
 
-    /** The blocks of moments of a piece. */
+    /** The blocks of moments of a piece.
+     *  @type {(bytes: Uint8Array, how?: { isLast?: boolean }) => Iterable<Block>} */
     *take(bytes, { isLast = false } = {}) {
       const { packer } = this;
       for (const event of this.lines.take(bytes, { isLast })) {
@@ -38,6 +41,7 @@ function daaPieces(root) {
       if (isLast && !packer.isEmpty) yield packer.take();
     }
 
+    /** @type {(event: StatesEvent) => void} */
     refuse(event) {
       this.count += 1;
       this.before += 1;
@@ -45,7 +49,8 @@ function daaPieces(root) {
       if (this.refused.length <= MOST_NOTES) this.refused.push(`line ${event.refused} was refused with code ${event.code}`);
     }
 
-    /** What is told at the end: of a file without a moment why it has none. */
+    /** What is told at the end: of a file without a moment why it has none.
+     *  @type {(name: string) => ReadEnd} */
     end(name) {
       const { count, first, lines } = this;
       const why = first ? `; line ${first.refused} was refused with code ${first.code}` : "";
@@ -57,10 +62,13 @@ function daaPieces(root) {
 
   /** A recording of some files, each of a name and a text. */
   class RecordingReading {
+    /** @param {Named[]} files
+     *  @param {Choice} choice */
     constructor(files, choice) {
       this.recording = root.daa.openRecording(files, choice);
     }
 
+    /** @type {() => Iterable<Block>} */
     *blocks() {
       const packer = new Packer();
       for (const moment of this.recording.moments()) {
@@ -70,6 +78,7 @@ function daaPieces(root) {
       if (!packer.isEmpty) yield packer.take();
     }
 
+    /** @type {(name: string) => ReadEnd} */
     end(name) {
       const { names, own, faults, notes, alone, count } = this.recording.end();
       const none = count ? "" : `${name}: no moment is left; ${[...faults, ...notes].join("; ")}`;
@@ -78,7 +87,8 @@ function daaPieces(root) {
   }
 
   /** Reads files, and gives each block with the share of them that is read; its promise is of what is told at the end. `breathe` is waited for now
-   *  and then. */
+   *  and then.
+   *  @type {(engine: any, files: File[], choice: Choice, give: GiveBlock, breathe: () => any) => Promise<ReadEnd>} */
   async function readFiles(engine, files, choice, give, breathe) {
     const name = files.map((file) => file.name).join(", ");
     if (choice.isRecording) {
@@ -108,14 +118,16 @@ function daaPieces(root) {
 }
 daaPieces(globalThis);
 
-/** What runs in the worker that reads files. */
+/** What runs in the worker that reads files.
+ *  @type {(scope: any) => void} */
 function daaReader(scope) {
-  scope.onmessage = async ({ data: { module, files, choice } }) => {
+  scope.onmessage = async (/** @type {MessageEvent} */ { data: { module, files, choice } }) => {
+    /** @type {GiveBlock} */
     const give = (block, share) => scope.postMessage({ block, share }, [block.times.buffer, block.starts.buffer, block.numbers.buffer]);
     try {
       const engine = await daa.Engine.open(module);
       scope.postMessage({ end: await daa.readFiles(engine, files, choice, give, () => null) });
-    } catch (problem) {
+    } catch (/** @type {any} */ problem) {
       scope.postMessage({ failed: problem instanceof daa.NoRecording ? problem.message : `it can't be read (${problem.message})` });
     }
   };

@@ -3,6 +3,7 @@
  * aircraft.json. It does what the modules of tools/recordings do, which describe the forms; columns.js has the names of columns and
  * the units. No page is needed. */
 "use strict";
+/** @type {(root: Root) => void} */
 function daaReading(root) {
   const { columns: COLUMNS, units, dialects: DIALECTS, units_of_names: UNITS_OF_NAMES, above_what: ABOVE_WHAT } = root.daa.columns;
   const EARTH = Math.PI / 180;
@@ -13,6 +14,9 @@ function daaReading(root) {
   const DAY = 86400;
   const LEAST_UTC = 1e9; // s: a time from here on counts since 1970
   const GREATEST_SINCE_1970 = 1e20; // in any unit
+  /** @type {[number, string, number]} */
+  const LAST_UNIT = [0, "seconds", 1];
+  /** @type {[number, string, number][]} */
   const SINCE_1970 = [[1e17, "nanoseconds", 1e-9], [1e14, "microseconds", 1e-6], [1e11, "milliseconds", 1e-3], [1e9, "seconds", 1]];
   const LINE_ENDS = /\r\n|[\n\v\f\r\x1c-\x1e\x85\u2028\u2029]/;
 
@@ -20,44 +24,60 @@ function daaReading(root) {
   class BadRow extends Error {}
   class RepeatedHeader extends BadRow {}
 
+  /** @type {(why: string) => never} */
   const fail = (why) => { throw new NoRecording(why); };
+  /** @type {(why: string) => never} */
   const bad = (why) => { throw new BadRow(why); };
 
-  /** The nearest whole number; of two the even one. */
+  /** The nearest whole number; of two the even one.
+   *  @type {(number: number) => number} */
   function round(number) {
     const floor = Math.floor(number);
     const rest = number - floor;
     return rest < 0.5 || (rest === 0.5 && floor % 2 === 0) ? floor : floor + 1;
   }
 
+  /** @type {(count: number, what: string) => string} */
   const many = (count, what) => `${count} ${what}${count === 1 ? "" : "s"}`;
+  /** @type {(count: number) => string} */
   const plural = (count) => (count === 1 ? "" : "s");
 
-  /** A text in quotes, as Python's ascii() writes it: what is no plain letter as an escape. */
+  /** A text in quotes, as Python's ascii() writes it: what is no plain letter as an escape.
+   *  @type {(text: string) => string} */
   function quoted(text) {
     const mark = text.includes("'") && !text.includes('"') ? '"' : "'";
+    /** @type {(letter: string) => string} */
     const escape = (letter) => {
-      const code = letter.codePointAt(0);
+      const code = Number(letter.codePointAt(0));
       const plain = { "\\": "\\\\", "\t": "\\t", "\n": "\\n", "\r": "\\r", [mark]: `\\${mark}` }[letter];
+      /** @type {[string, number]} */
       const width = code < 256 ? ["x", 2] : code < 65536 ? ["u", 4] : ["U", 8];
       return plain ?? (code >= 32 && code < 127 ? letter : `\\${width[0]}${code.toString(16).padStart(width[1], "0")}`);
     };
     return mark + [...text].map(escape).join("") + mark;
   }
 
+  /** Each name in a row of units, with its worth, which may be a fraction.
+   *  @type {(row: [string, number | Pair]) => [string, number][]} */
+  const worths = ([names, worth]) => names.split(" ").map((name) => [name, Array.isArray(worth) ? worth[0] / worth[1] : worth]);
+
   /** Each name of a unit of a quantity, with its worth. */
-  const UNITS = Object.fromEntries(Object.entries(units).map(([quantity, rows]) => [quantity, Object.fromEntries(
-    rows.flatMap(([names, worth]) => names.split(" ").map((name) => [name, Array.isArray(worth) ? worth[0] / worth[1] : worth])))]));
+  const UNITS = Object.fromEntries(Object.entries(units).map(([quantity, rows]) => [quantity, Object.fromEntries(rows.flatMap(worths))]));
 
   // ---- cells
 
-  /** What stands between cells: in all lines a semicolon where the header has one, so that a comma there is one of a number. */
+  /** What stands between cells: in all lines a semicolon where the header has one, so that a comma there is one of a number.
+   *  @type {(header: string) => string} */
   const marksOf = (header) => (header.includes(";") ? ";" : ",;");
+  /** @type {(line: string, marks: string) => string | null} */
   const markOf = (line, marks) => [...marks].find((mark) => line.includes(mark)) ?? null;
+  /** @type {(cell: string) => string} */
   const trimmed = (cell) => cell.replace(/^[ \t"]+|(?<![ \t"])[ \t"]+$/g, ""); // which looks at each run of blanks once
+  /** @type {(cell: string) => string} */
   const blankless = (cell) => cell.replace(/^[ \t]+|(?<![ \t])[ \t]+$/g, "");
 
-  /** The cells of a line in which a mark within quotes is none. */
+  /** The cells of a line in which a mark within quotes is none.
+   *  @type {(line: string, mark: string) => string[]} */
   function quotedCells(line, mark) {
     const cells = [];
     let [cell, isQuoted, isBegun] = ["", false, false];
@@ -75,7 +95,8 @@ function daaReading(root) {
     return [...cells, cell].map((it) => it.trim());
   }
 
-  /** The cells of a line; between blanks a unit in brackets that follows a name stays with it. */
+  /** The cells of a line; between blanks a unit in brackets that follows a name stays with it.
+   *  @type {(line: string, marks: string) => string[]} */
   function cellsOf(line, marks) {
     const mark = markOf(line, marks);
     if (mark === null) return line.trim().split(/\s+(?![[(])/).map(trimmed);
@@ -83,9 +104,11 @@ function daaReading(root) {
     return (marks.length > 1 ? line.replaceAll(";", ",") : line).split(mark === ";" && marks.length > 1 ? "," : mark).map(blankless);
   }
 
+  /** @type {(line: string, marks: string) => string[]} */
   const unitCellsOf = (line, marks) => (markOf(line, marks) ? cellsOf(line, marks) : line.trim().split(/\s+/));
 
-  /** A header's name and unit. */
+  /** A header's name and unit.
+   *  @type {(cell: string) => [string, string | null]} */
   function splitUnit(cell) {
     const found = /^([^[(]*)[[(]([^\])]*)[\])]$/.exec(cell);
     return found ? [found[1].trimEnd(), found[2]] : [cell, null];
@@ -93,13 +116,15 @@ function daaReading(root) {
 
   // ---- numbers and times
 
+  /** @type {(cell: string) => number | null} */
   function numberOf(cell) {
     if (!/^\s*[+-]?(\d+(_\d+)*(\.(\d+(_\d+)*)?)?|\.\d+(_\d+)*)([eE][-+]?\d+(_\d+)*)?\s*$/.test(cell)) return null;
     const found = Number(cell.replaceAll("_", ""));
     return Number.isFinite(found) ? found : null;
   }
 
-  /** The seconds from 1970 to a date, or null where there is no such one. */
+  /** The seconds from 1970 to a date, or null where there is no such one.
+   *  @type {(year: string, month: string, day: string) => number | null} */
   function dayOf(year, month, day) {
     const date = new Date(0);
     date.setUTCFullYear(Number(year), Number(month) - 1, Number(day));
@@ -109,31 +134,36 @@ function daaReading(root) {
 
   const ISO = /^(\d{4})[-/](\d\d)[-/](\d\d)[T ]+(\d\d):([0-5]\d):([0-5]\d(?:[.,]\d*)?) ?(Z|UTC|[+-]\d\d(?::?\d\d)?)?$/i;
 
-  /** The seconds since 1970 of a date and time, and whether its zone is told; or null. */
+  /** The seconds since 1970 of a date and time, and whether its zone is told; or null.
+   *  @type {(cell: string) => [number, boolean] | null} */
   function isoTime(cell) {
     const found = ISO.exec(cell);
     const day = found ? dayOf(found[1], found[2], found[3]) : null;
-    if (day === null || Number(found[4]) > 24) return null;
+    if (!found || day === null || Number(found[4]) > 24) return null;
     const zone = (found[7] || "").toUpperCase();
     const digits = zone.slice(1).replace(":", "").padEnd(4, "0");
     const shift = /^[+-]/.test(zone) ? (Number(digits.slice(0, 2)) * 3600 + Number(digits.slice(2)) * 60) * (zone[0] === "+" ? 1 : -1) : 0;
     return [day + Number(found[4]) * 3600 + Number(found[5]) * 60 + Number(found[6].replace(",", ".")) - shift, Boolean(zone)];
   }
 
+  /** @type {(cell: string) => number | null} */
   function dateTime(cell) {
     const found = /^(\d{4})[-/](\d\d)[-/](\d\d)$/.exec(cell);
     return found ? dayOf(found[1], found[2], found[3]) : null;
   }
 
-  /** The seconds of a time of day hh:mm:ss, which may go on past 24:00:00; or null. */
+  /** The seconds of a time of day hh:mm:ss, which may go on past 24:00:00; or null.
+   *  @type {(cell: string) => number | null} */
   function timeOfDay(cell) {
     const found = /^(\d{1,9}):([0-5]\d):([0-5]\d(?:\.\d*)?)$/.exec(cell);
     return found ? Number(found[1]) * 3600 + Number(found[2]) * 60 + Number(found[3]) : null;
   }
 
+  /** @type {(cell: string) => boolean} */
   const isTime = (cell) => numberOf(cell) !== null || timeOfDay(cell) !== null || isoTime(cell) !== null;
 
-  /** Whether a time since 1970 has all its seconds; a spreadsheet may write 1.71568E+09 and so take the last ones away. */
+  /** Whether a time since 1970 has all its seconds; a spreadsheet may write 1.71568E+09 and so take the last ones away.
+   *  @type {(cell: string) => boolean} */
   function hasAllDigits(cell) {
     const [mantissa, exponent] = cell.toLowerCase().split("e");
     return exponent === undefined || mantissa.replace(/\D/g, "").length >= 10;
@@ -141,17 +171,18 @@ function daaReading(root) {
 
   /** The times of one file, by the cells that were read before. */
   class Times {
-    /** @type {Set<string>} */ forms;
-    /** @type {any} */ worth;
-    /** @type {number | null} */ first;
-    /** @type {Map<string, number>} */ last;
-    /** @type {number} */ midnights;
+    /** @type {Set<string>} */ forms = new Set();
+    /** @type {number | null} */ scale = null;
+    /** @type {number | null} */ first = null;
+    /** @type {Map<string, number>} */ last = new Map();
+    midnights = 0;
+    isUtc = false;
 
-    constructor(worth) {
-      Object.assign(this, { worth, scale: null, forms: new Set(), last: new Map(), first: null, midnights: 0, isUtc: false });
-    }
+    /** @param {number | null} worth */
+    constructor(worth) { this.worth = worth; }
 
-    /** The seconds of a cell of an aircraft, with the date of another cell where there is one; or null. */
+    /** The seconds of a cell of an aircraft, with the date of another cell where there is one; or null.
+     *  @type {(cell: string, name: string, date: string | null) => number | null} */
     read(cell, name, date) {
       const number = numberOf(cell);
       if (number !== null) return this.scaled(number, cell);
@@ -173,10 +204,11 @@ function daaReading(root) {
       return this.pastMidnight(seconds, name);
     }
 
-    /** The seconds of a number: of the unit that is given, or of the one since 1970 that fits the first time. */
+    /** The seconds of a number: of the unit that is given, or of the one since 1970 that fits the first time.
+     *  @type {(number: number, cell: string) => number | null} */
     scaled(number, cell) {
       if (this.scale === null) {
-        const [, what, worth] = SINCE_1970.find(([least]) => number >= least) || [0, "seconds", 1];
+        const [, what, worth] = SINCE_1970.find(([least]) => number >= least) ?? LAST_UNIT;
         this.scale = this.worth ?? worth;
         if (this.worth === null && number >= LEAST_UTC) this.forms.add(`${what} since 1970`);
       }
@@ -186,7 +218,8 @@ function daaReading(root) {
       return found;
     }
 
-    /** A time of day on the day that is nearest to the aircraft's last time, or at first to the recording's first time. */
+    /** A time of day on the day that is nearest to the aircraft's last time, or at first to the recording's first time.
+     *  @type {(seconds: number, name: string) => number} */
     pastMidnight(seconds, name) {
       this.first ??= seconds;
       const days = Math.max(0, round(((this.last.get(name) ?? this.first) - seconds) / DAY));
@@ -200,17 +233,24 @@ function daaReading(root) {
 
   // ---- the header
 
+  /** @type {Record<string, string[][]>} */
   const FORMS = { place: [["lat", "lon"], ["position"], ["sx", "sy"]], speed: [["trk", "gs"], ["vx", "vy"]] };
+  /** @type {Record<string, string>} */
   const SAYS = { place: "a place (lat lon, or sx sy)", speed: "a speed (trk gs, or vx vy)" };
   const ALTITUDES = ["alt_baro", "alt", "alt_geom"];
+  /** @type {Record<string, boolean>} */
+  const IS_BAROMETRIC = { alt_baro: true, alt_geom: false };
   const PREFIX = "globalpositionint"; // before each name, where a tool of MAVLink writes several messages into one table
   const OF_WHAT = / ?(a?msl|hae|agl|std|baro|geo|gps|gnss|true|tas|utc)$/;
 
-  /** A name as it is compared: in small letters, without what stands between its words. */
+  /** A name as it is compared: in small letters, without what stands between its words.
+   *  @type {(name: string) => string} */
   const plain = (name) => name.replace(/[\s_.\-]/g, "").toLowerCase();
+  /** @type {(name: string) => string[]} */
   const wordsOf = (name) => name.replace(/([a-z])([A-Z])/g, "$1_$2").split(/[\s_.\-]+/).filter(Boolean);
 
-  /** A unit as the table has it, or null. */
+  /** A unit as the table has it, or null.
+   *  @type {(quantity: string, unit: string) => string | null} */
   function unitKey(quantity, unit) {
     const key = unit.trim().toLowerCase();
     const bare = key.replace(OF_WHAT, "");
@@ -219,25 +259,31 @@ function daaReading(root) {
 
   /** The columns of a table by its header line, and by the line under it, which has that number, where it has units. */
   class Header {
+    /** @param {string} line
+     *  @param {string} under
+     *  @param {number} number */
     constructor(line, under, number) {
       this.marks = marksOf(line);
       this.number = number;
       this.cells = cellsOf(line, this.marks);
       this.named = this.cells.map(splitUnit);
       this.names = this.named.map(([name]) => plain(name)).map((name) => (name.startsWith(PREFIX) ? name.slice(PREFIX.length) : name));
-      this.dialect = DIALECTS.find(({ needs }) => needs.every((name) => this.names.includes(name))) ?? null;
+      this.dialect = DIALECTS.find((/** @type {{ needs: string[] }} */ { needs }) => needs.every((name) => this.names.includes(name))) ?? null;
       this.places = this.find();
-      this.altitude = ALTITUDES.find((column) => column in this.places) ?? null;
+      this.altitude = ALTITUDES.find((column) => column in this.places) ?? "";
       this.check();
       this.used = this.usedColumns();
       this.hasUnitLine = Boolean(under) && this.isUnitLine(under);
       const below = this.hasUnitLine ? unitCellsOf(under, this.marks).map((cell) => splitUnit(cell)[1] || cell) : [];
+      /** @type {Record<string, string>} */
       this.units = {};
       this.worth = Object.fromEntries(this.used.filter((column) => COLUMNS[column].quantity).map((column) => [column, this.worthOf(column, below)]));
     }
 
-    /** The column's place for each that is there; of several names the one that stands first in the table. */
+    /** The column's place for each that is there; of several names the one that stands first in the table.
+     *  @type {() => Record<string, Placing>} */
     find() {
+      /** @type {Record<string, Placing>} */
       const places = {};
       for (const [column, entry] of Object.entries(COLUMNS)) {
         const ranked = this.names.flatMap((_, at) => this.ranks(column, entry, at).map(([rank, unit]) => ({ rank, at, unit })));
@@ -251,7 +297,8 @@ function daaReading(root) {
       return places;
     }
 
-    /** How a header's name stands in the names of a column, and the unit that belongs to it: none, or one. */
+    /** How a header's name stands in the names of a column, and the unit that belongs to it: none, or one.
+     *  @type {(column: string, entry: NamedColumn, at: number) => [number, string | null][]} */
     ranks(column, entry, at) {
       const name = this.names[at];
       if (this.dialect && Object.hasOwn(this.dialect.columns, name)) {
@@ -266,14 +313,15 @@ function daaReading(root) {
       return entry.names.includes(begin) && unit ? [[entry.names.indexOf(begin), unit]] : [];
     }
 
-    /** The columns that a place or a speed is made of; the first form that is whole is taken. */
-    form(what) { return FORMS[what].find((form) => form.every((column) => column in this.places)) ?? null; }
+    /** The columns that a place or a speed is made of: the first form that is whole, or nothing.
+     *  @type {(what: string) => string[]} */
+    form(what) { return FORMS[what].find((form) => form.every((column) => column in this.places)) ?? []; }
 
     /** A row of such a header can't be read: the words name what is there and what would do. */
     check() {
       const missing = "time" in this.places ? [] : [`time (${COLUMNS.time.says})`];
-      if (this.altitude === null) missing.push(`alt (${COLUMNS.alt.says})`);
-      missing.push(...Object.keys(FORMS).filter((what) => !this.form(what)).map((what) => SAYS[what]));
+      if (!this.altitude) missing.push(`alt (${COLUMNS.alt.says})`);
+      missing.push(...Object.keys(FORMS).filter((what) => !this.form(what).length).map((what) => SAYS[what]));
       if (!missing.length) return;
       if (!Object.keys(this.places).length && this.cells.some((cell) => numberOf(cell) !== null)) {
         fail("no header line: the first line has numbers and no names of columns; write one above it, such as `time,id,lat,lon,alt,gs,trk,vs`");
@@ -286,9 +334,10 @@ function daaReading(root) {
       return names.slice(0, 30).join(", ").slice(0, 400) + (names.length > 30 ? ", .." : "");
     }
 
+    /** @type {(missing: string[]) => string} */
     hint(missing) {
       const above = this.names.find((name) => Object.hasOwn(ABOVE_WHAT, name));
-      if (above && this.altitude === null) return ` (${above} is above ${ABOVE_WHAT[above]}, and altitudes here are above the sea)`;
+      if (above && !this.altitude) return ` (${above} is above ${ABOVE_WHAT[above]}, and altitudes here are above the sea)`;
       const first = missing[0].split(" ").map((word) => word.replace("(", "")).find((word) => Object.hasOwn(COLUMNS, word)) ?? "lat";
       return `; if one of these is it, tell tools/from_daa so: --columns ${first}=NAME`;
     }
@@ -303,10 +352,12 @@ function daaReading(root) {
       return this.named.flatMap(([name], at) => (there.has(at) ? [] : [name || "without a name"]));
     }
 
-    /** A line has units if no time stands where one would, nothing else begins as a number, and it is not the header once more. */
+    /** A line has units if no time stands where one would, nothing else begins as a number, and it is not the header once more.
+     *  @type {(line: string) => boolean} */
     isUnitLine(line) {
       const cells = unitCellsOf(line, this.marks);
       const at = this.places.time.at;
+      /** @type {(some: string[]) => string} */
       const small = (some) => some.map((cell) => cell.toLowerCase()).join("\0");
       if (at >= cells.length || isTime(cells[at]) || small(cells) === small(this.cells)) return false;
       return !this.used.some((column) => {
@@ -315,7 +366,8 @@ function daaReading(root) {
       });
     }
 
-    /** What a number of a column is worth: by the line of units, the header, or the name itself; null where none is told. */
+    /** What a number of a column is worth: by the line of units, the header, or the name itself; null where none is told.
+     *  @type {(column: string, below: string[]) => number | null} */
     worthOf(column, below) {
       const [found, { quantity }] = [this.places[column], COLUMNS[column]];
       let [unit, where] = found.at < below.length ? [below[found.at], `line ${this.number}: `] : [this.named[found.at][1], ""];
@@ -324,7 +376,7 @@ function daaReading(root) {
       const key = unitKey(quantity, unit);
       if (key === null) {
         const also = column === "time" && where ? "no time (a number, hh:mm:ss or ISO 8601) and " : "";
-        const known = units[quantity].map(([names]) => names.split(" ")[0]).join(", ");
+        const known = units[quantity].map((/** @type {string[]} */ [names]) => names.split(" ")[0]).join(", ");
         fail(`${where}${unit} is ${also}no unit of ${column} that is known; known are ${known}`);
       }
       this.units[column] = unit;
@@ -334,11 +386,14 @@ function daaReading(root) {
 
   // ---- rows
 
-  /** A report: s, degrees or NM, ft, knots eastward and northward, ft/min, and the track, for where it stands; and what it lacks. */
+  /** A report: s, degrees or NM, ft, knots eastward and northward, ft/min, and the track, for where it stands; and what it lacks.
+   *  @type {(name: string, time: number, place: Pair, alt: number, east: number, north: number, vs: number, track: number) => Row} */
   const rowOf = (name, time, place, alt, east, north, vs, track) => ({ name, time, place, alt, east, north, vs, track, lack: "" });
+  /** @type {(name: string, time: number, place: Pair, lack: string) => Row} */
   const lackingRow = (name, time, place, lack) => ({ ...rowOf(name, time, place, 0, 0, 0, 0, 0), lack });
 
-  /** The act's row, or one that says what it lacks. */
+  /** The act's row, or one that says what it lacks.
+   *  @type {(name: string, time: number, place: Pair, act: () => Row) => Row} */
   function wholeOrLacking(name, time, place, act) {
     try {
       return act();
@@ -348,26 +403,30 @@ function daaReading(root) {
     }
   }
 
+  /** @type {(name: string, time: number, place: Pair, alt: number, speed: number, track: number, vs: number) => Row} */
   const polarRow = (name, time, place, alt, speed, track, vs) => rowOf(name, time, place, alt, speed * Math.sin(track * EARTH),
     speed * Math.cos(track * EARTH), vs, track);
 
   const HEMISPHERE = /^([0-9.]+)(?:° ?(?:([0-9.]+)['′] ?(?:([0-9.]+)["″] ?)?)?)? ?([NSEW])$/i;
   const ON_GROUND = ["true", "t", "1", "-1", "yes", "y", "ground", "gnd"];
 
-  /** A number that is written with its unit (`3000 ft`), or a latitude or longitude with its hemisphere; or null. */
+  /** A number that is written with its unit (`3000 ft`), or a latitude or longitude with its hemisphere; or null.
+   *  @type {(column: string, cell: string) => number | null} */
   function numberOtherwise(column, cell) {
     if (column === "lat" || column === "lon") {
       const found = HEMISPHERE.exec(cell);
-      const parts = found ? found.slice(1, 4).map((part) => numberOf(part || "0")) : [null];
-      if (parts.includes(null) || "NS".includes(found[4].toUpperCase()) !== (column === "lat")) return null;
-      return (parts[0] + parts[1] / 60 + parts[2] / 3600) * ("SW".includes(found[4].toUpperCase()) ? -1 : 1);
+      const [degrees, minutes, seconds] = found ? found.slice(1, 4).map((part) => numberOf(part || "0")) : [null, null, null];
+      if (!found || degrees === null || minutes === null || seconds === null) return null;
+      if ("NS".includes(found[4].toUpperCase()) !== (column === "lat")) return null;
+      return (degrees + minutes / 60 + seconds / 3600) * ("SW".includes(found[4].toUpperCase()) ? -1 : 1);
     }
     const found = /^([-+]?[0-9.]+(?:[eE][-+]?[0-9]+)?) ?([^\s0-9.].*)$/.exec(cell);
     const [number, key] = found ? [numberOf(found[1]), unitKey(COLUMNS[column].quantity, found[2])] : [null, null];
     return number !== null && key ? number * UNITS[COLUMNS[column].quantity][key] : null;
   }
 
-  /** A number of a column in its unit. */
+  /** A number of a column in its unit.
+   *  @type {(column: string, cell: string, worth: number) => number} */
   function valueOf(column, cell, worth) {
     const plainNumber = numberOf(cell);
     const found = plainNumber === null ? numberOtherwise(column, cell) : plainNumber * worth;
@@ -381,6 +440,7 @@ function daaReading(root) {
     return found;
   }
 
+  /** @type {(cell: string) => string} */
   function timeHint(cell) {
     if (/^[-+0-9.]*,[0-9]*$/.test(cell)) return ": a decimal comma? Write a point";
     if (/^[0-9]{1,2}:[0-9]{2}$/.test(cell)) return ": seconds are missing";
@@ -390,25 +450,29 @@ function daaReading(root) {
 
   /** A table: its header, and its rows line by line. */
   class Table {
-    /** @type {string} */ owner;
-    /** @type {any} */ times;
-    /** @type {string | null} */ firstName;
-    /** @type {Map<string, string>} */ labels;
-    /** @type {number} */ grounded;
+    /** @type {string | null} */ firstName = null;
+    /** @type {Map<string, string>} */ labels = new Map();
+    grounded = 0;
 
+    /** @param {string} line
+     *  @param {string} under
+     *  @param {number} number
+     *  @param {string} owner */
     constructor(line, under, number, owner) {
       this.header = new Header(line, under, number);
       const { header } = this;
-      Object.assign(this, { owner, times: new Times(header.worth.time), labels: new Map(), grounded: 0, firstName: null, climbs: null });
+      this.owner = owner;
+      this.times = new Times(header.worth.time);
       this.onEarth = header.form("place")[0] !== "sx";
-      this.isBarometric = { alt_baro: true, alt_geom: false }[header.altitude] ?? null;
-      if (!("vs" in header.places)) this.climbs = new Map();
+      this.isBarometric = IS_BAROMETRIC[header.altitude] ?? null;
+      this.climbs = "vs" in header.places ? null : new Map(); // of each aircraft's last report, where vertical speeds are taken from heights
       this.at = Object.fromEntries(Object.entries(header.places).map(([column, { at }]) => [column, at]));
       this.columns = header.cells.length;
       this.isPolar = header.form("speed")[0] === "trk";
     }
 
-    /** The reports of a row: one, or none of an aircraft on the ground. */
+    /** The reports of a row: one, or none of an aircraft on the ground.
+     *  @type {(line: string) => Row[]} */
     rows(line) {
       const cells = cellsOf(line, this.header.marks);
       this.fitLength(cells, line);
@@ -428,7 +492,8 @@ function daaReading(root) {
       return [wholeOrLacking(name, time, place, () => this.wholeRow(name, time, place, cells))];
     }
 
-    /** A row may lack cells at its end; one that has more is none, but for empty ones. */
+    /** A row may lack cells at its end; one that has more is none, but for empty ones.
+     *  @type {(cells: string[], line: string) => void} */
     fitLength(cells, line) {
       if (cells.length === this.columns) return;
       const told = `${cells.length} fields, and the header has ${this.columns}`;
@@ -439,13 +504,16 @@ function daaReading(root) {
       while (cells.length < this.columns) cells.push("");
     }
 
+    /** @type {(cells: string[]) => boolean} */
     isOnGround(cells) {
       const altitude = cells[this.at[this.header.altitude]].toLowerCase();
       return ("ground" in this.at && ON_GROUND.includes(cells[this.at.ground].toLowerCase())) || altitude === "ground" || altitude === "gnd";
     }
 
+    /** @type {(column: string, cells: string[]) => number} */
     value(column, cells) { return valueOf(column, cells[this.at[column]], this.header.worth[column] || 1); }
 
+    /** @type {(cells: string[]) => Pair} */
     placeOf(cells) {
       if (!this.onEarth) return [this.value("sx", cells), this.value("sy", cells)];
       const place = this.latitudeAndLongitude(cells);
@@ -453,6 +521,7 @@ function daaReading(root) {
       return place;
     }
 
+    /** @type {(cells: string[]) => Pair} */
     latitudeAndLongitude(cells) {
       if (this.header.form("place")[0] !== "position") return [this.value("lat", cells), this.value("lon", cells)];
       const pieces = cells[this.at.position].replace(/^[()[\] ]+|[()[\] ]+$/g, "").split(/[,; ]+/);
@@ -460,26 +529,23 @@ function daaReading(root) {
       return [valueOf("lat", pieces[0], 1), valueOf("lon", pieces[1], 1)];
     }
 
+    /** @type {(name: string, time: number, place: Pair, cells: string[]) => Row} */
     wholeRow(name, time, place, cells) {
       const alt = this.value(this.header.altitude, cells);
-      let [track, speed] = [0, null];
-      if (this.isPolar) {
-        track = this.value("trk", cells);
-        speed = this.value("gs", cells);
-        speed = [speed * Math.sin(track * EARTH), speed * Math.cos(track * EARTH)];
-      } else speed = [this.value("vx", cells), this.value("vy", cells)];
-      const vs = this.climbs ? this.climbOf(name, time, alt) : this.value("vs", cells);
-      return rowOf(name, time, place, alt, speed[0], speed[1], vs, track);
+      const [one, other] = (this.isPolar ? ["trk", "gs"] : ["vx", "vy"]).map((column) => this.value(column, cells));
+      const vs = this.climbs ? this.climbOf(this.climbs, name, time, alt) : this.value("vs", cells);
+      return this.isPolar ? polarRow(name, time, place, alt, other, one, vs) : rowOf(name, time, place, alt, one, other, vs, 0);
     }
 
-    /** The vertical speed of an aircraft by its height of the report before, where a recording has none. */
-    climbOf(name, time, alt) {
-      const before = this.climbs.get(name);
+    /** The vertical speed of an aircraft by its height of the report before, where a recording has none.
+     *  @type {(climbs: Map<string, { time: number, alt: number, vs: number | null }>, name: string, time: number, alt: number) => number} */
+    climbOf(climbs, name, time, alt) {
+      const before = climbs.get(name);
       let found = before ? before.vs : null;
       if (!before || before.time !== time) {
         const apart = before ? time - before.time : 0;
-        found = apart && Math.abs(apart) <= CLIMB_WITHIN ? ((alt - before.alt) * 60) / apart : null;
-        this.climbs.set(name, { time, alt, vs: found });
+        found = before && apart && Math.abs(apart) <= CLIMB_WITHIN ? ((alt - before.alt) * 60) / apart : null;
+        climbs.set(name, { time, alt, vs: found });
       }
       return found ?? bad("no vertical speed yet");
     }
@@ -492,17 +558,16 @@ function daaReading(root) {
 
   /** BaseStation lines: position, velocity and call sign of an aircraft come in different ones, which are joined by its address. */
   class BaseStation {
-    /** @type {Map<string, any>} */ heard;
-    /** @type {Map<string, string>} */ labels;
-    /** @type {number} */ grounded;
-    /** @type {string | null} */ firstName;
+    onEarth = true;
+    isBarometric = true;
+    /** @type {Map<string, any>} */ heard = new Map();
+    /** @type {Map<string, string>} */ labels = new Map();
+    grounded = 0;
+    /** @type {string | null} */ firstName = null;
+    told = "BaseStation lines: altitudes in ft, barometric, speeds in knots and ft/min, of which most receivers send whole knots, "
+      + "whole degrees and multiples of 64 ft/min";
 
-    constructor() {
-      Object.assign(this, { onEarth: true, isBarometric: true, heard: new Map(), labels: new Map(), grounded: 0, firstName: null });
-      this.told = "BaseStation lines: altitudes in ft, barometric, speeds in knots and ft/min, of which most receivers send whole knots, "
-        + "whole degrees and multiples of 64 ft/min";
-    }
-
+    /** @type {(line: string) => Row[]} */
     rows(line) {
       const cells = line.split(",").map((cell) => cell.trim());
       if (cells[0] !== "MSG" && IS_BASE_STATION.test(line)) return [];
@@ -525,6 +590,7 @@ function daaReading(root) {
       if (speed !== null && track !== null) heard.velocity = [now, [speed, track]];
       if (climb !== null) heard.climb = [now, climb];
       if (lat === null || lon === null || Math.abs(lat) > 90 || Math.abs(lon) > 180) return [];
+      /** @type {(what: string, words: string) => any} */
       const held = (what, words) => {
         const [when, value] = /** @type {[number, any]} */ (heard[what] || bad(`no ${words}`));
         return now - when <= HELD ? value : bad(`no ${words} within ${HELD} s`);
@@ -539,21 +605,22 @@ function daaReading(root) {
 
   // ---- aircraft.json
 
+  /** @type {Record<string, string[]>} */
   const KEYS = { alt: ["alt_baro", "altitude"], speed: ["gs", "speed"], track: ["track"], climb: ["baro_rate", "vert_rate", "geom_rate"],
     lat: ["lat"], lon: ["lon"] };
-  const NEEDED = [["alt", "altitude"], ["speed", "velocity"], ["track", "velocity"], ["climb", "vertical speed"]];
+  /** @type {Record<string, string>} */
+  const NEEDED = { alt: "altitude", speed: "velocity", track: "velocity", climb: "vertical speed" };
 
   /** aircraft.json, which dump1090 and readsb write each second: one such text, or one a line. */
   class AircraftJson {
-    /** @type {Map<string, string>} */ labels;
-    /** @type {number} */ grounded;
-    /** @type {string | null} */ firstName;
+    onEarth = true;
+    isBarometric = true;
+    /** @type {Map<string, string>} */ labels = new Map();
+    grounded = 0;
+    /** @type {string | null} */ firstName = null;
+    told = "aircraft.json: altitudes (alt_baro) in ft, speeds in knots and ft/min; a position is seen_pos seconds older than `now`";
 
-    constructor() {
-      Object.assign(this, { onEarth: true, isBarometric: true, labels: new Map(), grounded: 0, firstName: null });
-      this.told = "aircraft.json: altitudes (alt_baro) in ft, speeds in knots and ft/min; a position is seen_pos seconds older than `now`";
-    }
-
+    /** @type {(text: string) => Row[]} */
     rows(text) {
       let held = null;
       try {
@@ -565,50 +632,59 @@ function daaReading(root) {
       const now = held.now > 1e11 ? held.now / 1000 : held.now;
       const listed = "aircraft" in held ? held.aircraft : held.ac;
       if (!Array.isArray(listed)) bad("no aircraft.json: it has no list `aircraft`");
-      return listed.filter((one) => one && typeof one === "object" && !Array.isArray(one)).map((one) => this.row(one, now)).filter(Boolean);
+      return listed.filter((one) => one && typeof one === "object" && !Array.isArray(one)).flatMap((one) => this.row(one, now));
     }
 
+    /** The report of an aircraft, or none where it has no place or is on the ground.
+     *  @type {(one: any, now: number) => Row[]} */
     row(one, now) {
       const address = String(one.hex ?? "").toUpperCase();
+      /** @type {(what: string) => number | null} */
       const value = (what) => KEYS[what].map((key) => one[key]).find((it) => typeof it === "number") ?? null;
       if (typeof one.flight === "string" && one.flight.trim()) this.labels.set(address, one.flight.trim());
-      const place = [value("lat"), value("lon")];
-      if (!address || place.includes(null) || Math.abs(place[0]) > 90) return null;
+      const [lat, lon] = [value("lat"), value("lon")];
+      if (!address || lat === null || lon === null || Math.abs(lat) > 90) return [];
       if ([one.alt_baro, one.altitude].includes("ground")) {
         this.grounded += 1;
-        return null;
+        return [];
       }
       this.firstName ??= address;
       const late = "seen_pos" in one ? one.seen_pos : one.seen ?? 0;
       const time = now - (typeof late === "number" ? late : 0);
-      const lacks = NEEDED.find(([what]) => value(what) === null);
-      if (lacks) return lackingRow(address, time, place, `no ${lacks[1]}`);
-      return polarRow(address, time, place, value("alt"), value("speed"), value("track"), value("climb"));
+      const needed = (/** @type {string} */ what) => value(what) ?? bad(`no ${NEEDED[what]}`);
+      return [wholeOrLacking(address, time, [lat, lon], () => polarRow(address, time, [lat, lon], needed("alt"), needed("speed"), needed("track"),
+        needed("climb")))];
     }
   }
 
   // ---- a file
 
+  /** The unit that is assumed where none is told.
+   *  @type {Record<string, string>} */
+  const USUAL = { angle: "deg", length: "NM", height: "ft", speed: "knots", climb: "ft/min" };
+
+  /** @type {(line: string) => string} */
   const pieceOf = (line) => line.trim().slice(0, MOST_SHOWN);
 
   /** A recording that is taken line by line; the form is found by its first line. */
   class Source {
-    /** @type {number} */ number;
-    /** @type {number} */ settings;
-    /** @type {number} */ repeated;
-    /** @type {Map<string, any>} */ faults;
-    /** @type {number} */ count;
-    /** @type {any} */ form;
-    /** @type {string[] | null} */ text;
-    /** @type {string | null} */ headerLine;
-    /** @type {string} */ path;
+    number = 0;
+    settings = 0;
+    repeated = 0;
+    /** @type {Map<string, any>} */ faults = new Map();
+    count = 0;
+    /** @type {any} */ form = null;
+    /** @type {string[] | null} */ text = null;
+    headerLine = ""; // of a table, once it was read
 
+    /** @param {string} path */
     constructor(path) {
-      Object.assign(this, { path, number: 0, settings: 0, headerLine: null, repeated: 0, form: null, text: null, faults: new Map(), count: 0 });
+      this.path = path;
       this.owner = path.replace(/^.*[\\/]/, "").replace(/(?<=.)\.[^.]*$/, "");
     }
 
-    /** The reports of one more line. */
+    /** The reports of one more line.
+     *  @type {(line: string) => Row[]} */
     take(line) {
       this.number += 1;
       const stripped = line.trim();
@@ -620,9 +696,10 @@ function daaReading(root) {
       return this.form ? this.rows(line) : this.begin(line, stripped);
     }
 
-    /** Finds the form by the first lines. */
+    /** Finds the form by the first lines.
+     *  @type {(line: string, stripped: string) => Row[]} */
     begin(line, stripped) {
-      if (this.headerLine !== null) return this.beginTable(line);
+      if (this.headerLine) return this.beginTable(line);
       if (line.includes("=") && !stripped.startsWith("{")) this.settings += 1;
       else if (IS_BASE_STATION.test(stripped)) {
         this.form = new BaseStation();
@@ -635,11 +712,13 @@ function daaReading(root) {
       return [];
     }
 
+    /** @type {(under: string) => Row[]} */
     beginTable(under) {
       this.form = new Table(this.headerLine, under, this.number, this.owner);
       return this.form.header.hasUnitLine || !under ? [] : this.rows(under);
     }
 
+    /** @type {(line: string) => Row[]} */
     beginJson(line) {
       this.form = new AircraftJson();
       try {
@@ -651,7 +730,8 @@ function daaReading(root) {
       return this.rows(line);
     }
 
-    /** The reports of a line in the form that was found; what can't be read is noted. */
+    /** The reports of a line in the form that was found; what can't be read is noted.
+     *  @type {(line: string) => Row[]} */
     rows(line) {
       let found = [];
       try {
@@ -668,20 +748,23 @@ function daaReading(root) {
       return found;
     }
 
+    /** @type {(line: string, cause: string) => void} */
     leaveOut(line, cause) {
       const fault = this.faults.get(cause) || { count: 0, first: this.number, text: pieceOf(line) };
       this.faults.set(cause, { ...fault, count: fault.count + 1 });
     }
 
-    /** The reports that the end brings; a recording of which nothing could be read is none. */
+    /** The reports that the end brings; a recording of which nothing could be read is none.
+     *  @type {() => Row[]} */
     end() {
+      /** @type {Row[]} */
       let found = [];
       if (this.text) {
         const text = this.text.join("\n");
         this.text = null;
         found = this.rows(text);
       }
-      if (!this.form && this.headerLine !== null) this.beginTable("");
+      if (!this.form && this.headerLine) this.beginTable("");
       if (!this.form) fail("no header line");
       if (!this.count) {
         const [cause, first] = [...this.faults].sort(([, one], [, other]) => one.first - other.first)[0] || [];
@@ -695,7 +778,8 @@ function daaReading(root) {
       return this.form.times.forms.has("time of day") ? "day" : null;
     }
 
-    /** What was left out of this file. */
+    /** What was left out of this file.
+     *  @type {() => string[]} */
     toldFaults() {
       const told = [...this.faults].map(([cause, { count, first, text }]) => `left out: ${many(count, "row")} with ${cause}: `
         + `${count > 1 ? "the first is " : ""}line ${first}: ${quoted(text)}`);
@@ -704,7 +788,8 @@ function daaReading(root) {
       return told;
     }
 
-    /** What was taken of this file: its form, or its columns and their units. */
+    /** What was taken of this file: its form, or its columns and their units.
+     *  @type {() => string[]} */
     toldTaken() {
       if (!(this.form instanceof Table)) return [this.form.told];
       const { header } = this.form;
@@ -729,18 +814,19 @@ function daaReading(root) {
       return told;
     }
 
-    /** A column by its name and its unit, which is marked where it is assumed. */
+    /** A column by its name and its unit, which is marked where it is assumed.
+     *  @type {(column: string) => string} */
     toldColumn(column) {
       const { header, times } = this.form;
       const [{ quantity }, { name }] = [COLUMNS[column], header.places[column]];
       if (column === "time") return `${name} (${header.units.time ?? times.told()})`;
       if (quantity === null) return name;
-      const usual = { angle: "deg", length: "NM", height: "ft", speed: "knots", climb: "ft/min" }[quantity];
-      return column in header.units ? `${name} (${header.units[column]})` : `${name} (${usual}, assumed)`;
+      return column in header.units ? `${name} (${header.units[column]})` : `${name} (${USUAL[quantity]}, assumed)`;
     }
   }
 
-  /** The rows of a text, and its source. */
+  /** The rows of a text, and its source.
+   *  @type {(text: string, path: string) => { source: Source, rows: Row[] }} */
   function readText(text, path) {
     const source = new Source(path);
     const lines = text.split(LINE_ENDS);
@@ -749,14 +835,17 @@ function daaReading(root) {
     return { source, rows: [...rows, ...source.end()] };
   }
 
-  /** Whether a text looks like a recording: its first line with fields names columns, or is one of a receiver. */
+  /** Whether a text looks like a recording: its first line with fields names columns, or is one of a receiver.
+   *  @type {(text: string) => boolean} */
   function isRecording(text) {
-    const isFirst = (line) => line.trim() && !line.trimStart().startsWith("#") && (!line.includes("=") || /^\s*[{[]/.test(line));
+    /** @type {(line: string) => boolean} */
+    const isFirst = (line) => line.trim() !== "" && !line.trimStart().startsWith("#") && (!line.includes("=") || /^\s*[{[]/.test(line));
     const first = text.split(LINE_ENDS).find(isFirst);
     if (!first) return false;
     if (/^\ufffd.*\0/.test(first) || IS_BASE_STATION.test(first) || /^\s*[{[]/.test(first)) return true;
     const there = cellsOf(first, marksOf(first)).map((cell) => plain(splitUnit(cell)[0]));
-    const has = (column) => COLUMNS[column].names.some((name) => there.includes(name));
+    /** @type {(column: string) => boolean} */
+    const has = (column) => COLUMNS[column].names.some((/** @type {string} */ name) => there.includes(name));
     return has("time") && ["name", "lat", "position", "alt", "alt_geom", "alt_baro"].some(has);
   }
 

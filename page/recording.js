@@ -2,10 +2,12 @@
 /* Recordings made into state lines: what tools/from_daa does, which describes it. reading.js reads the rows; each report of the ownship
  * is a moment, with the latest report of every other aircraft until then. No page is needed. */
 "use strict";
+/** @type {(root: Root) => void} */
 function daaRecording(root) {
   const { readText, round, many } = root.daa.reading;
   const { NoRecording } = root.daa;
   const EARTH = Math.PI / 180;
+  /** @type {Record<string, number>} */
   const RANGES = { x: 200000, y: 200000, vx: 10000, vy: 10000, vs: 10000 }; // on both sides of 0
   const ALTITUDES = [-2000, 60000];
   const FASTEST = 10000;
@@ -21,31 +23,38 @@ function daaRecording(root) {
   const MOST_NAMES = 5; // so many names that are changed are told one by one
   const ROUNDING = 1e-6; // s: what the rounding of a time's unit may cost
 
+  /** @type {(why: string) => never} */
   const fail = (why) => { throw new NoRecording(why); };
 
-  /** The rest of a division, from 0 on. */
+  /** The rest of a division, from 0 on.
+   *  @type {(number: number, by: number) => number} */
   function modulo(number, by) {
     const rest = number % by;
     return rest < 0 ? rest + by : rest;
   }
 
-  /** A number with so many digits after its point, never -0. */
+  /** A number with so many digits after its point, never -0.
+   *  @type {(number: number, digits: number) => string} */
   const fixed = (number, digits) => (round(number * 10 ** digits) / 10 ** digits + 0).toFixed(digits);
 
-  /** The second that a time lies in. */
+  /** The second that a time lies in.
+   *  @type {(time: number) => number} */
   const wholeSecond = (time) => Math.floor(time + ROUNDING);
 
+  /** @type {(time: number) => string} */
   const shownTime = (time) => String(Number(time.toPrecision(10)));
 
-  /** An identifier of at most 8 letters for each name: the name itself, or one that keeps the digits at its end. */
+  /** An identifier of at most 8 letters for each name: the name itself, or one that keeps the digits at its end.
+   *  @type {(names: string[]) => Map<string, string>} */
   function identifiers(names) {
+    /** @type {(name: string) => boolean} */
     const isSound = (name) => /^[A-Za-z0-9_-]{1,8}$/.test(name);
     const given = new Map(names.filter(isSound).map((name) => [name, name]));
     const taken = new Set(given.values());
     let spare = 0;
     for (const name of names.filter((one) => !isSound(one))) {
       const clean = name.replace(/[^A-Za-z0-9_-]/g, "");
-      const digits = /[0-9]{0,7}$/.exec(clean)[0];
+      const [digits] = clean.match(/[0-9]{0,7}$/) ?? [""];
       let short = clean.length <= 8 ? clean : clean.slice(0, 8 - digits.length) + digits;
       while (!short || taken.has(short)) short = `A${spare++}`;
       taken.add(short);
@@ -56,7 +65,8 @@ function daaRecording(root) {
 
   // ---- the plane
 
-  /** How far a second place is east and north of a first one, in NM. */
+  /** How far a second place is east and north of a first one, in NM.
+   *  @type {(onEarth: boolean) => Offset} */
   function offsetOn(onEarth) {
     if (!onEarth) return (one, other) => [other[0] - one[0], other[1] - one[1]];
     return (one, other) => {
@@ -65,54 +75,62 @@ function daaRecording(root) {
     };
   }
 
-  /** Turned to the left by an angle. */
+  /** Turned to the left by an angle.
+   *  @type {(east: number, north: number, angle: number) => Pair} */
   const rotated = (east, north, angle) => [east * Math.cos(angle) - north * Math.sin(angle), east * Math.sin(angle) + north * Math.cos(angle)];
 
+  /** @type {(alt: number) => boolean} */
   const isAltitude = (alt) => ALTITUDES[0] <= alt && alt <= ALTITUDES[1];
+  /** @type {(state: Record<string, any>, fields: string[]) => boolean} */
   const isWithin = (state, fields) => isAltitude(state.alt) && fields.every((field) => Math.abs(state[field]) <= RANGES[field]);
 
   /** Makes moments of the reports that it takes, in the order of their times. */
   class Maker {
-    /** @type {string} */ ownName;
-    /** @type {boolean} */ onEarth;
-    /** @type {number} */ oldest;
-    /** @type {(one: number[], other: number[]) => number[]} */ offset;
-    /** @type {Map<string, string>} */ ids;
-    /** @type {Map<string, any[]>} */ leftOut;
-    /** @type {number} */ far;
-    /** @type {Map<string, Row>} */ latest;
-    /** @type {Map<string, Row>} */ incomplete;
-    /** @type {number[]} */ steps;
-    /** @type {Map<string, number[]>} */ lacking;
-    /** @type {Map<string, number>} */ gaps;
-    /** @type {number[][]} */ ownGaps;
-    /** @type {Moment[]} */ made;
-    /** @type {number} */ last;
-    /** @type {Row | null} */ pending;
-    /** @type {Row | null} */ start;
-    /** @type {string} */ silence;
+    /** @type {Map<string, any[]>} */ leftOut = new Map();
+    far = 0;
+    /** @type {Map<string, Row>} */ latest = new Map();
+    /** @type {Map<string, Row>} */ incomplete = new Map();
+    /** @type {number[]} */ steps = [];
+    /** @type {Map<string, number[]>} */ lacking = new Map();
+    /** @type {Map<string, number>} */ gaps = new Map();
+    /** @type {number[][]} */ ownGaps = [];
+    /** @type {Moment[]} */ made = [];
+    last = -1;
+    /** @type {Row | null} */ pending = null;
+    /** @type {Row | null} */ start = null;
+    silence = "";
 
+    /** @param {string} ownName
+     *  @param {boolean} onEarth
+     *  @param {number} oldest
+     *  @param {string[]} names */
     constructor(ownName, onEarth, oldest, names) {
-      Object.assign(this, { ownName, onEarth, oldest, offset: offsetOn(onEarth), ids: identifiers(names), leftOut: new Map(), far: 0,
-        latest: new Map(), incomplete: new Map(), steps: [], lacking: new Map(), gaps: new Map(), ownGaps: [], made: [],
-        last: -1, pending: null, start: null, silence: "" });
+      this.ownName = ownName;
+      this.onEarth = onEarth;
+      this.oldest = oldest;
+      this.offset = offsetOn(onEarth);
+      this.ids = identifiers(names);
     }
 
-    /** The moments that were made since they were taken last. */
+    /** The moments that were made since they were taken last.
+     *  @type {() => Moment[]} */
     takeMade() { return this.made.splice(0); }
 
-    /** Counts what is left out: a thing by its name, and why. */
+    /** Counts what is left out: a thing by its name, and why.
+     *  @type {(what: string, why: string) => void} */
     leaveOut(what, why) {
       const [count] = this.leftOut.get(what + why) || [0];
       this.leftOut.set(what + why, [count + 1, what, why]);
     }
 
+    /** @type {(name: string) => string} */
     idOf(name) {
       if (!this.ids.has(name)) this.ids = identifiers([...this.ids.keys(), name]);
-      return this.ids.get(name);
+      return this.ids.get(name) ?? ""; // which each name has
     }
 
-    /** A moment waits for what is reported at the same time. */
+    /** A moment waits for what is reported at the same time.
+     *  @type {(row: Row) => void} */
     take(row) {
       if (this.pending && row.time > this.pending.time) this.flush();
       if (row.name !== this.ownName) this.takeTraffic(row);
@@ -120,16 +138,19 @@ function daaRecording(root) {
       else this.pending = row;
     }
 
+    /** @type {(row: Row) => void} */
     takeTraffic(row) {
       if (row.lack) this.incomplete.set(row.name, row);
       else {
-        if (this.latest.has(row.name)) this.noteGap(row.name, row.time - this.latest.get(row.name).time);
+        const before = this.latest.get(row.name);
+        if (before) this.noteGap(row.name, row.time - before.time);
         this.latest.set(row.name, row);
         this.incomplete.delete(row.name);
       }
     }
 
-    /** Notes how long an aircraft was not heard. */
+    /** Notes how long an aircraft was not heard.
+     *  @type {(name: string, seconds: number) => void} */
     noteGap(name, seconds) {
       if (seconds > (this.gaps.get(name) ?? 0)) this.gaps.set(name, seconds);
     }
@@ -140,15 +161,16 @@ function daaRecording(root) {
       if (row) this.addMoment(row);
     }
 
+    /** @type {(row: Row) => void} */
     addMoment(row) {
-      this.start ??= row;
+      const start = (this.start ??= row);
       const time = wholeSecond(row.time);
       const { last } = this;
       if (time < Math.max(last + 1, 0) || time > LAST_SECOND) {
         this.leaveOut("moment", "in a second that has one already, or out of range");
         return;
       }
-      const found = row.lack ? null : this.ownOf(row);
+      const found = row.lack ? null : this.ownOf(row, start);
       if (!found) {
         this.leaveOut("moment", row.lack ? `whose ownship has ${row.lack}` : "whose ownship is out of range");
         this.silence = row.lack ? `of the ownship ${row.lack}` : "the ownship is out of range";
@@ -162,7 +184,8 @@ function daaRecording(root) {
     }
 
     /** Why there is no moment between two seconds, or nothing: where more than two of the recording's steps lie between them. The median
-     *  of the steps so far is the recording's. */
+     *  of the steps so far is the recording's.
+     *  @type {(last: number, time: number) => string} */
     silenceBetween(last, time) {
       if (last < 0) return "";
       const step = time - last;
@@ -179,12 +202,13 @@ function daaRecording(root) {
       return `no report of the ownship between ${last} and ${time} s`;
     }
 
-    /** The ownship's numbers, and the angle by which the plane is turned, so that rounding its track costs nothing. */
-    ownOf(row) {
+    /** The ownship's numbers, and the angle by which the plane is turned, so that rounding its track costs nothing.
+     *  @type {(row: Row, start: Row) => { own: Own, angle: number } | null} */
+    ownOf(row, start) {
       const moving = row.east || row.north;
       const track = modulo(moving ? Math.atan2(row.east, row.north) * (180 / Math.PI) : row.track, 360);
       const whole = round(track);
-      const [east, north] = this.offset(this.start.place, row.place);
+      const [east, north] = this.offset(start.place, row.place);
       const isNear = Math.max(Math.abs(east), Math.abs(north)) <= FARTHEST_OWN;
       const own = { x: isNear ? round(1000 * east) : 0, y: isNear ? round(1000 * north) : 0, alt: round(row.alt), trk: whole % 360,
         gs: round(10 * Math.hypot(row.east, row.north)), vs: round(row.vs) };
@@ -193,7 +217,8 @@ function daaRecording(root) {
       return { own, angle: (track - whole) * EARTH };
     }
 
-    /** An aircraft's numbers, or null where they are out of range: its latest report, flown straight on by the fraction of a second. */
+    /** An aircraft's numbers, or null where they are out of range: its latest report, flown straight on by the fraction of a second.
+     *  @type {(row: Row, ownRow: Row, own: Own, angle: number, way: Pair) => Aircraft | null} */
     trafficOf(row, ownRow, own, angle, [east, north]) {
       const late = ownRow.time - row.time;
       const age = Math.min(wholeSecond(late), MOST_AGE);
@@ -206,9 +231,15 @@ function daaRecording(root) {
     }
 
     /** The nearest aircraft, as many as there may be, in the order in which the recording first has them; the comments on those that the
-     *  moment lacks. */
+     *  moment lacks.
+     *  @type {(ownRow: Row, own: Own, angle: number, time: number) => { traffic: Aircraft[], comments: string[] }} */
     trafficAt(ownRow, own, angle, time) {
-      const [there, lacking, found] = [[], [], new Map()];
+      /** @type {[number, Row, Pair][]} */
+      const there = [];
+      /** @type {Lacking[]} */
+      const lacking = [];
+      /** @type {Map<string, Aircraft>} */
+      const found = new Map();
       for (const [name, row] of [...this.latest]) {
         const late = ownRow.time - row.time;
         if (late > FORGOTTEN + ROUNDING) {
@@ -234,18 +265,21 @@ function daaRecording(root) {
         }
       }
       lacking.push(...this.incompleteAt(ownRow));
-      const traffic = isCrowded ? [...this.latest.keys()].filter((name) => found.has(name)).map((name) => found.get(name)) : [...found.values()];
+      const traffic = isCrowded ? [...this.latest.keys()].flatMap((name) => found.get(name) ?? []) : [...found.values()];
       return { traffic, comments: this.commentsOn(lacking, time) };
     }
 
-    /** Why a moment lacks an aircraft whose last whole report is old. */
+    /** Why a moment lacks an aircraft whose last whole report is old.
+     *  @type {(row: Row, now: number) => string} */
     lackOf(row, now) {
       const newer = this.incomplete.get(row.name);
       return newer && now - newer.time <= this.oldest + ROUNDING ? newer.lack : `no report for ${wholeSecond(now - row.time)} s`;
     }
 
-    /** The aircraft of which only reports came that lack something, with their distance and what they lack. */
+    /** The aircraft of which only reports came that lack something, with their distance and what they lack.
+     *  @type {(ownRow: Row) => Lacking[]} */
     incompleteAt(ownRow) {
+      /** @type {Lacking[]} */
       const found = [];
       for (const [name, row] of [...this.incomplete]) {
         const late = ownRow.time - row.time;
@@ -258,7 +292,8 @@ function daaRecording(root) {
       return found;
     }
 
-    /** The comments on those that a moment lacks and that were near, the nearest one first. */
+    /** The comments on those that a moment lacks and that were near, the nearest one first.
+     *  @type {(lacking: Lacking[], time: number) => string[]} */
     commentsOn(lacking, time) {
       const near = lacking.filter(([far]) => far <= NEAR).sort(([one], [other]) => one - other);
       for (const [, name] of near) {
@@ -271,8 +306,10 @@ function daaRecording(root) {
       return comments;
     }
 
-    /** The whole names and call signs of aircraft, by their identifiers. */
+    /** The whole names and call signs of aircraft, by their identifiers.
+     *  @type {(labels: Map<string, string>) => Map<string, string>} */
     wholeNames(labels) {
+      /** @type {(name: string, short: string) => string} */
       const wordsOf = (name, short) => [name, labels.get(name) ?? ""].filter((word) => word && word !== short).join(" ");
       const others = [...this.ids].filter(([name]) => name !== this.ownName);
       const named = others.map(([name, short]) => /** @type {[string, string]} */ ([short, wordsOf(name, short)]));
@@ -280,19 +317,24 @@ function daaRecording(root) {
     }
   }
 
+  /** @type {(own: Own) => string} */
   const ownLine = (own) => `own ${own.x} ${own.y} ${own.alt} ${own.trk} ${own.gs} ${own.vs}`;
+  /** @type {(one: Aircraft, form: number) => string} */
   const trafficLine = (one, form) => `traffic ${one.id} ${one.x} ${one.y} ${one.alt} ${one.vx} ${one.vy} ${one.vs}${form === 2 ? ` ${one.age}` : ""}`;
+  /** @type {(name: string) => string} */
   const shortened = (name) => [...name].slice(0, MOST_NAME).join("");
 
   /** The state lines of moments, in format 2 where some report has an age; with the comments of each moment, where it has some, others
-   *  before the first one, and the whole names of aircraft before the moment that first names them. */
+   *  before the first one, and the whole names of aircraft before the moment that first names them.
+   *  @type {(some: Iterable<Moment>, head?: string[], wholeNames?: Map<string, string>) => string} */
   function stateLines(some, head = [], wholeNames = new Map()) {
     const moments = [...some];
     const form = moments.some(({ traffic }) => traffic.some((one) => one.age)) ? 2 : 1;
     return linesIn(form, moments, [...(form === 2 ? ["format 2"] : []), ...head], wholeNames);
   }
 
-  /** The state lines of moments in a format, after the lines of a head. */
+  /** The state lines of moments in a format, after the lines of a head.
+   *  @type {(form: number, moments: Moment[], head?: string[], wholeNames?: Map<string, string>) => string} */
   function linesIn(form, moments, head = [], wholeNames = new Map()) {
     const lines = [...head];
     const untold = new Map(wholeNames);
@@ -310,13 +352,14 @@ function daaRecording(root) {
     return lines.map((line) => line + "\n").join("");
   }
 
-  /** What was read of all files: the rows, the sources, the call signs of aircraft. Each tells of itself, by its name where there are several. */
+  /** What was read of all files: the rows, the sources, the call signs of aircraft. Each tells of itself, by its name where there are several.
+   *  @type {(files: Named[]) => ReadFiles} */
   function readFiles(files) {
     const isNamed = files.length > 1;
     const read = files.map(({ name, text }) => {
       try {
         return { name, ...readText(text, name) };
-      } catch (problem) {
+      } catch (/** @type {any} */ problem) {
         if (problem instanceof NoRecording && isNamed) fail(`${name}: ${problem.message}`);
         throw problem;
       }
@@ -324,17 +367,21 @@ function daaRecording(root) {
     const sources = read.map(({ source }) => source);
     const other = read.find(({ source }) => source.form.onEarth !== sources[0].form.onEarth);
     if (other) fail(`${other.name} and ${read[0].name} are no one recording: one has latitudes and longitudes, the other places on a plane`);
+    /** @type {(act: (source: any) => string[]) => string[]} */
     const told = (act) => sources.flatMap((source) => act(source).map((words) => (isNamed ? `${source.path}: ${words}` : words)));
     return { rows: read.flatMap(({ rows }) => rows), sources, labels: new Map(sources.flatMap(({ form }) => [...form.labels])),
       faults: told((source) => source.toldFaults()), taken: told((source) => source.toldTaken()), notes: told((source) => source.told()) };
   }
 
-  /** The ownship where none is named: the first aircraft; of several files, whose order means nothing, the first that is called own.. */
+  /** The ownship where none is named: the first aircraft; of several files, whose order means nothing, the first that is called own..
+   *  @type {(names: string[], sources: any[]) => string} */
   const ownOf = (names, sources) => (sources.length > 1 && names.find((name) => /^own/i.test(name))) || sources[0].form.firstName;
 
   /** Why no report of traffic falls into the time of the ownship, and by what shift it would: whole hours, where some do, since clocks
-   *  often differ by a time zone. */
+   *  often differ by a time zone.
+   *  @type {(rows: Row[], own: string) => string} */
   function whyAlone(rows, own) {
+    /** @type {(some: Row[]) => Pair} */
     const span = (some) => some.reduce(([first, last], { time }) => [Math.min(first, time), Math.max(last, time)], [Infinity, -Infinity]);
     const others = rows.filter((row) => row.name !== own);
     if (!others.length) return "no other aircraft: the recording has reports of the ownship alone";
@@ -346,7 +393,8 @@ function daaRecording(root) {
       + `${shownTime(from)} to ${shownTime(upto)} s, and ${shownTime(Math.abs(shift))} s ${shift < 0 ? "less" : "more"} would bring them there`;
   }
 
-  /** Where the ownship's times fall. */
+  /** Where the ownship's times fall.
+   *  @type {(rows: Row[], ownName: string) => string[]} */
   function toldFalls(rows, ownName) {
     const times = rows.filter((row) => row.name === ownName).map((row) => row.time);
     const fall = times.findIndex((time, place) => time < times[place - 1]);
@@ -355,9 +403,11 @@ function daaRecording(root) {
       + "their times"];
   }
 
-  /** Where the heights of a recording are not all of one kind. */
+  /** Where the heights of a recording are not all of one kind.
+   *  @type {(sources: any[]) => string[]} */
   function toldHeights(sources) {
     if (new Set(sources.map(({ form }) => form.isBarometric)).size < 2) return [];
+    /** @type {(form: { isBarometric: boolean | null }) => string} */
     const kindOf = ({ isBarometric }) => (isBarometric === null ? "of a kind that is not told" : isBarometric ? "barometric" : "geometric");
     const files = sources.map(({ path, form }) => `${path} ${kindOf(form)}`).join(", ");
     return [`heights are mixed: ${files}; barometric and geometric heights may differ by more than a level's zthr (docs/GUIDE.md): `
@@ -368,17 +418,19 @@ function daaRecording(root) {
    *  taken, its names; what is wrong (`faults`); whom moments lack and when (`lacking`); which columns and units were taken (`taken`); what else is
    *  to be told (`notes`); and why no traffic is known in any moment, or nothing (`alone`). `wasTaken` says shortly what was
    *  taken. Several files are one recording, of which each may have
-   *  a header of its own. No report is older than `oldest` seconds. */
+   *  a header of its own. No report is older than `oldest` seconds.
+   *  @type {(files: Named[], choice?: { own?: string | null, oldest?: number }) => OpenRecording} */
   function openRecording(files, { own: ownName = null, oldest = OLDEST } = {}) {
     const { rows, sources, labels, faults, taken, notes } = readFiles(files);
     const names = [...new Set(rows.filter((row) => !row.lack).map((row) => row.name))];
-    const own = names.includes(ownName) ? ownName : ownOf(names, sources);
+    const own = ownName !== null && names.includes(ownName) ? ownName : ownOf(names, sources);
     if (!names.includes(own)) fail(`no report of ${own}, the first aircraft, can be read; --own NAME takes another one as the ownship`);
     const { onEarth } = sources[0].form;
     faults.push(...toldFalls(rows, own), ...toldHeights(sources), ...daa.implausible(rows, own, onEarth, offsetOn(onEarth)));
     if (files.length > 1) notes.unshift(`${files.length} files are one recording: ${files.map(({ name }) => name).join(", ")}`);
     const maker = new Maker(own, onEarth, oldest, names);
     let [count, isAlone, most] = [0, true, 0];
+    /** @type {(moment: Moment) => Moment} */
     const noted = (moment) => {
       count += 1;
       most = Math.max(most, moment.traffic.length);
@@ -401,7 +453,7 @@ function daaRecording(root) {
       const how = isFirst ? "the first aircraft of the recording" : "the first that is called so";
       const why = own === ownName ? "as chosen" : `${how}; Ownship takes another one`;
       const reports = sources.reduce((sum, source) => sum + source.count, 0);
-      const [lat, lon] = maker.start ? maker.start.place : [];
+      const [lat, lon] = maker.start ? maker.start.place : [0, 0];
       return [`the ownship is ${named}, ${why}`, ...taken, `${many(count, "moment")} of up to ${most} aircraft, from ${many(reports, "report")}`,
         ...(onEarth && maker.start ? [`0 0 of the plane is at ${lat.toFixed(6)} ${lon.toFixed(6)}`] : []), ...lackingOf(maker).slice(0, MOST_LACKS)];
     };
@@ -409,7 +461,8 @@ function daaRecording(root) {
       wholeNames: () => maker.wholeNames(labels) };
   }
 
-  /** Where no moment is, in how many moments each aircraft is lacking, when, and for how long nothing was heard. */
+  /** Where no moment is, in how many moments each aircraft is lacking, when, and for how long nothing was heard.
+   *  @type {(maker: Maker) => string[]} */
   function lackingOf(maker) {
     const [longest] = [...maker.ownGaps].sort((one, other) => other[0] - one[0] || other[1] - one[1]);
     const several = maker.ownGaps.length > 1 ? `: the longest of ${maker.ownGaps.length} gaps` : "";
@@ -422,7 +475,8 @@ function daaRecording(root) {
     })];
   }
 
-  /** The state lines of a whole recording, as tools/from_daa makes them, and what is told at its end. */
+  /** The state lines of a whole recording, as tools/from_daa makes them, and what is told at its end.
+   *  @type {(files: Named[], choice?: { own?: string | null, oldest?: number }) => any} */
   function fromRecording(files, choice) {
     const recording = openRecording(files, choice);
     const moments = [...recording.moments()];
@@ -431,16 +485,20 @@ function daaRecording(root) {
     return { states: stateLines(moments, recording.head, recording.wholeNames()), ...told };
   }
 
-  /** What the times count from, where all files agree. */
+  /** What the times count from, where all files agree.
+   *  @type {(sources: any[]) => string} */
   const clockOf = ([{ clock }, ...others]) => (clock && others.every((source) => source.clock === clock) ? clock : "");
+  /** @type {(sources: any[]) => string[]} */
   const clockComment = (sources) => (clockOf(sources) ? [`# clock ${clockOf(sources)}`] : []);
 
-  /** What was changed and left out. */
+  /** What was changed and left out.
+   *  @type {(maker: Maker, own: string) => string[]} */
   function notesOf(maker, own) {
     const renamed = [...maker.ids].filter(([name, short]) => ![short, own].includes(name)).map(([name, short]) => `${name} is written ${short}`);
     const shown = renamed.length > MOST_NAMES + 1 ? MOST_NAMES : renamed.length;
     const notes = renamed.slice(0, shown);
     if (shown < renamed.length) notes.push(`${renamed.length - shown} more names are written otherwise`);
+    /** @type {(count: number, what: string) => string} */
     const counted = (count, what) => (what === "aircraft" ? `${count} aircraft` : many(count, what));
     for (const [count, what, why] of maker.leftOut.values()) notes.push(`left out: ${counted(count, what)} ${why}`);
     if (maker.far) notes.push(`${many(maker.far, "moment")} with the ownship at 0 0, more than ${FARTHEST_OWN} NM from where it began`);

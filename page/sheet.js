@@ -9,13 +9,15 @@
   const AT_ONCE = 64; // moments
   const PATIENCE = 30; // ms: so long the page works before it lets others come
 
-  /** The moments as they are shown: as recorded, or as changed by hand. */
+  /** The moments as they are shown: as recorded, or as changed by hand.
+   *  @type {(index: number) => Moment} */
   const shownAt = (index) => {
     const edit = state.edits.get(index);
     return edit ? copy(edit) : state.moments.at(index);
   };
 
-  /** Lets others come where it has worked for long. */
+  /** Lets others come where it has worked for long.
+   *  @type {() => () => Promise<void>} */
   function breather() {
     let since = performance.now();
     return async () => {
@@ -25,7 +27,8 @@
     };
   }
 
-  /** The state lines of the whole recording, in parts: in format 2 where some report has an age. */
+  /** The state lines of the whole recording, in parts: in format 2 where some report has an age.
+   *  @type {(breathe: () => Promise<void>) => Promise<string[]>} */
   async function wholeStates(breathe) {
     const { length } = state.moments;
     let form = 1;
@@ -44,7 +47,8 @@
     return parts;
   }
 
-  /** The reports of the whole recording, in parts, as the program writes them for its state lines. */
+  /** The reports of the whole recording, in parts, as the program writes them for its state lines.
+   *  @type {(desk: any, tell: (share: number) => void) => Promise<string[]>} */
   async function wholeReport(desk, tell) {
     const { moments, views: [view] } = state;
     const parts = [];
@@ -59,7 +63,8 @@
     return parts;
   }
 
-  /** The name of a file of the whole recording. */
+  /** The name of a file of the whole recording.
+   *  @type {(ending: string) => string} */
   function fileOf(ending) {
     const [name] = (state.flown?.recorded.name ?? state.name).split(/\.[^.]*$/);
     const base = name.replace(/[^\w.-]+/g, "-") || "recording";
@@ -67,6 +72,7 @@
   }
 
   let isSaving = false;
+  /** @type {(button: HTMLElement, make: (tell: (share: number) => void) => Promise<string[]>, ending: string) => Promise<void>} */
   async function save(button, make, ending) {
     if (isSaving || state.reading) return;
     isSaving = true;
@@ -76,7 +82,7 @@
       const parts = await make((share) => setText(button, `${Math.round(100 * share)} %`));
       download(new Blob(parts, { type: "text/plain" }), name);
       ui.tell("");
-    } catch (problem) {
+    } catch (/** @type {any} */ problem) {
       ui.tell(`${name} is not saved: ${problem.message}`);
     }
     setText(button, words);
@@ -95,13 +101,15 @@
 
   // ---- the sheet
 
-  /** The SHA-256 of bytes, in hexadecimal digits. */
+  /** The SHA-256 of bytes, in hexadecimal digits.
+   *  @type {(bytes: Uint8Array) => Promise<string>} */
   async function digestOf(bytes) {
     if (!globalThis.crypto?.subtle) return "not known";
     return Array.from(new Uint8Array(await crypto.subtle.digest("SHA-256", bytes)), (byte) => byte.toString(16).padStart(2, "0")).join("");
   }
 
   const digests = new Map(); // by the text; a sheet can't wait for one
+  /** @type {(text: string | Uint8Array) => string} */
   function digestIn(text) {
     if (!digests.has(text)) {
       digests.set(text, "…");
@@ -119,7 +127,7 @@
   /** What is needed to make the printed moment again: version, date, configurations, state lines. */
   function paintSheet() {
     const configs = shownViews().map(({ name, taken }) => `<li>configuration ${escape(name)}, SHA-256 ${digestIn(taken)}</li>`).join("");
-    const version = `DAIDALUS, exact ${daa.version}, engine SHA-256 ${digestIn(state.module)}`;
+    const version = `DAIDALUS, exact ${daa.version}, engine SHA-256 ${state.module ? digestIn(state.module) : "not known"}`;
     const of = state.edited ? "a moment changed by hand" : state.name;
     setHtml($("sheet"), `<h2>To make this sheet again</h2><ul><li>${version}</li>`
       + `<li>printed ${new Date().toISOString().slice(0, 16)}Z, of ${escape(of)}</li>${configs}</ul>`

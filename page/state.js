@@ -6,16 +6,18 @@
  * state and the reports. Bands are shown only with the states that they are the answer to. */
 "use strict";
 (function () {
-  const { VIEW_HEIGHTS, clamp, flown, escape, draw, calledIn, nameOf } = daa;
-  /** @type {Record<string, any>} */
-  const ui = (daa.ui = {}); // what the page's scripts share
-  const $ = (id) => document.getElementById(id);
+  const { VIEW_HEIGHTS, must, element, clamp, flown, escape, draw, calledIn, nameOf } = daa;
+  const ui = (daa.ui = /** @type {Ui} */ ({})); // what the page's scripts share
+  const $ = element;
   const RANGES_NM = [0.3, 0.6, 0.9, 1.5, 3, 6, 9, 12, 18, 24, 36, 48, 96, 192]; // so that their thirds are short numbers
+  /** @type {Record<string, Pair>} */
   const LIMITS = { x: [-200000, 200000], y: [-200000, 200000], alt: [-2000, 60000], trk: [0, 359], gs: [0, 10000],
     vx: [-10000, 10000], vy: [-10000, 10000], vs: [-10000, 10000], age: [0, 60] };
   // The numbers of the ownship and of an aircraft: each one's name and unit on the page, and how many of the engine's that is.
+  /** @type {Field[]} */
   const OWN_FIELDS = [["x", "east", "NM", 1000], ["y", "north", "NM", 1000], ["alt", "altitude", "ft", 1], ["trk", "track", "°", 1],
     ["gs", "speed", "kt", 10], ["vs", "vertical", "ft/min", 1]];
+  /** @type {Field[]} */
   const FIELDS = [["x", "east", "NM", 1000], ["y", "north", "NM", 1000], ["alt", "altitude", "ft", 1], ["vx", "east", "kt", 10],
     ["vy", "north", "kt", 10], ["vs", "vertical", "ft/min", 1], ["age", "age", "s", 1]];
   const PAPER = { width: 1100, height: 680 };
@@ -23,31 +25,39 @@
   const CHANGED = 2000; // ms: so long a range that changed is marked
   const SOON = 60; // ms: an answer that takes longer is waited for with the bands hidden
 
+  /** @type {PageState} */
   const state = { engine: null, surveys: [], views: [], name: "", told: [], untaken: "", alone: "", recording: null, times: [],
     moments: null, reading: null, share: null, // the recording: what of it is read, and the worker that reads more
     silence: "", // why there is no moment after the last one
     stale: "", // why no answer may be shown: of a live feed, that the last moment is not the present one any more
     flown: null, lesson: null, // what is flown in place of what was recorded; what is taught
-    index: 0, current: null, edited: false, edits: new Map(), undone: [], redone: [], window: null, axis: null, playing: null,
+    index: 0, current: /** @type {any} */ (null), edited: false, edits: new Map(), undone: [], redone: [], window: null, axis: null, playing: null,
     version: 0, chosen: "p:", held: null, compare: false, paper: false, unfolded: false, linesOpen: false };
   daa.page = state;
 
+  /** @type {(value: number, field: string) => number} */
   const within = (value, field) => clamp(Math.round(value), ...LIMITS[field]);
+  /** @type {(moment: Moment) => Moment} */
   const copy = (moment) => ({ time: moment.time, own: { ...moment.own }, traffic: moment.traffic.map((one) => ({ ...one })),
     comments: [...moment.comments] });
+  /** @type {() => Display[]} */
   const shownViews = () => state.views.filter((_, place) => place === 0 || state.compare);
+  /** @type {(element: HTMLElement, words: string) => void} */
   const setText = (element, words) => { if (element.textContent !== words) element.textContent = words; };
+  /** @type {(element: HTMLElement, html: string) => boolean} */
   const setHtml = (element, html) => {
     if (element.daaHtml === html) return false;
     element.daaHtml = html;
     element.innerHTML = html;
     return true;
   };
-  /** Puts names to choose from; each is a value of its own, since the words of an option lose blanks. */
+  /** Puts names to choose from; each is a value of its own, since the words of an option lose blanks.
+   *  @type {(select: HTMLElement, names: string[]) => void} */
   const fill = (select, names) => {
     select.innerHTML = names.map((name) => `<option value="${escape(name)}">${escape(name)}</option>`).join("");
   };
 
+  /** @type {(blob: Blob, name: string) => void} */
   function download(blob, name) {
     const link = Object.assign(document.createElement("a"), { href: URL.createObjectURL(blob), download: name });
     link.click();
@@ -55,15 +65,16 @@
   }
 
   /** Makes an element a toolbar: the tabulator reaches one of its buttons, and the arrow keys go from one to the next. */
-  ui.makeToolbar = (element) => {
-    const buttons = [...element.querySelectorAll("button")];
+  ui.makeToolbar = (/** @type {PageElement} */ bar) => {
+    const buttons = [...bar.querySelectorAll("button")];
+    /** @type {(button: HTMLElement) => void} */
     const reach = (button) => buttons.forEach((other) => { other.tabIndex = other === button ? 0 : -1; });
-    element.setAttribute("role", "toolbar");
-    element.setAttribute("aria-label", "View");
+    bar.setAttribute("role", "toolbar");
+    bar.setAttribute("aria-label", "View");
     reach(buttons[0]);
-    element.addEventListener("focusin", ({ target }) => { if (buttons.includes(target)) reach(target); });
-    element.addEventListener("keydown", (event) => {
-      const by = { ArrowRight: 1, ArrowLeft: -1 }[event.key];
+    bar.addEventListener("focusin", ({ target }) => { if (buttons.includes(target)) reach(target); });
+    bar.addEventListener("keydown", (event) => {
+      const by = Number(event.key === "ArrowRight") - Number(event.key === "ArrowLeft");
       if (!by || !buttons.includes(event.target)) return;
       event.preventDefault();
       buttons[(buttons.indexOf(event.target) + by + buttons.length) % buttons.length].focus();
@@ -72,8 +83,10 @@
 
   // ---- asking
 
-  /** Names the moment as it is now under a view's configuration. */
+  /** Names the moment as it is now under a view's configuration.
+   *  @type {(view: Display) => string} */
   const stampOf = (view) => `${state.version}/${view.edition}`;
+  /** @type {(view: Display) => boolean} */
   const isAnswered = (view) => view.answered === stampOf(view);
 
   let waits = false;
@@ -93,12 +106,13 @@
     changed();
   }
 
+  /** @type {(view: Display) => void} */
   function askFor(view) {
     const stamp = stampOf(view);
     if (view.asked === stamp) return;
     view.asked = stamp;
     view.desk.forget();
-    view.desk.ask({ config: { bytes: view.config.bytes }, moment: copy(state.current) }).then((answer) => {
+    view.desk.ask({ config: { bytes: view.config.bytes }, moment: copy(state.current) }).then((/** @type {Told | null} */ answer) => {
       if (!answer || stampOf(view) !== stamp) return; // it is the answer to what is no more
       view.answered = stamp;
       takeAnswer(view, answer);
@@ -106,27 +120,29 @@
     });
   }
 
-  /** Takes the answer to the present moment under a view's configuration, where it is known already. */
+  /** Takes the answer to the present moment under a view's configuration, where it is known already.
+   *  @type {(view: Display, answer: Told) => void} */
   function giveAnswer(view, answer) {
     view.asked = stampOf(view);
     view.answered = view.asked;
     takeAnswer(view, answer);
   }
 
+  /** @type {(view: Display, answer: Told) => void} */
   function takeAnswer(view, answer) {
     view.said = answer.text === undefined ? null : daa.readReport(answer.text);
     view.fault = answer.text !== undefined ? "" : answer.stopped || sentenceOf(answer);
     if (answer.took !== undefined) state.times = [...state.times.slice(-199), answer.took];
   }
 
+  /** @type {(answer: Told) => string} */
   function sentenceOf({ code, fault }) {
-    const cause = daa.CAUSES[code] || `code ${code}`;
+    const cause = daa.CAUSES[Number(code)] || `code ${code}`;
     if (!fault || fault.code === 18) return cause;
     const isOwn = fault.code === 16;
     const who = isOwn ? "the ownship" : nameOf(state.current.traffic[fault.place]);
     if (!fault.field) return `${cause}: ${who}`;
-    /** @type {any} */
-    const [, name, unit, scale] = (isOwn ? OWN_FIELDS : FIELDS).find(([field]) => field === fault.field);
+    const [, name, unit, scale] = must((isOwn ? OWN_FIELDS : FIELDS).find(([field]) => field === fault.field)); // the engine names one of these
     return `${name} of ${who} is not within ${fault.least / scale} and ${fault.greatest / scale}${unit === "°" ? "" : " "}${unit}`;
   }
 
@@ -139,13 +155,13 @@
     changed();
   });
 
-  let late = null;
+  let late = 0;
   function paintWhenAnswered() {
     if (shownViews().every(isAnswered)) {
       clearTimeout(late);
-      late = null;
+      late = 0;
       paint();
-    } else if (!late) late = setTimeout(() => { late = null; paint(); }, SOON);
+    } else if (!late) late = setTimeout(() => { late = 0; paint(); }, SOON);
   }
 
   // ---- painting
@@ -171,7 +187,8 @@
     if (ui.painted) ui.painted();
   }
 
-  /** How large a picture is drawn: as large as its place, and on paper in a shape of its own. */
+  /** How large a picture is drawn: as large as its place, and on paper in a shape of its own.
+   *  @type {(svg: SVGSVGElement) => Size} */
   function sizeOf(svg) {
     if (state.paper) return PAPER;
     const { width, height } = svg.getBoundingClientRect();
@@ -181,19 +198,25 @@
   /** A range that is not fixed follows what alerts under a shown configuration: it grows where an aircraft that alerts would be out of it, and
    *  shrinks where half of it would do, so that it changes rarely. Where nothing alerts it stays. */
   function follow() {
-    if (state.held || !shownViews().every(saidOf)) return;
+    const all = shownViews().map(saidOf);
+    if (state.held || !all.every(Boolean)) return;
     const { own, traffic } = state.current;
-    const isLoud = (_, place) => shownViews().some((view) => Math.max(saidOf(view).aircraft[place].level, saidOf(view).aircraft[place].now));
+    /** @type {(one: Aircraft, place: number) => boolean} */
+    const isLoud = (_, place) => all.some((said) => said && Math.max(said.aircraft[place].level, said.aircraft[place].now) > 0);
     const far = traffic.filter(isLoud).map((one) => distance(own, flown(one, one.age)));
     if (!far.length) return;
     const least = leastRange(Math.max(...far) * ROOM);
     for (const { look } of shownViews()) if (look.auto && (least > look.range || least <= look.range / 2)) look.range = least;
   }
 
+  /** @type {(one: Point, other: Point) => number} */
   const distance = (one, other) => Math.hypot(other.x - one.x, other.y - one.y) / 1000;
+  /** @type {(moment: Moment) => number} */
   const farthest = ({ own, traffic }) => Math.max(0, ...traffic.map((one) => distance(own, flown(one, one.age)))) || 5;
+  /** @type {(most: number) => number} */
   const leastRange = (most) => RANGES_NM.find((range) => range > most) || RANGES_NM[RANGES_NM.length - 1];
 
+  /** @type {(figure: HTMLElement, view: Display) => void} */
   function paintView(figure, view) {
     paintCaption(figure, view);
     const svg = figure.querySelector("svg");
@@ -201,14 +224,17 @@
     if (size.width < 50 || size.height < 50) return;
     view.drawn = draw(svg, lookOf(view), modelOf(view), size);
     const said = saidOf(view);
-    const most = said ? Math.max(0, ...said.aircraft.map((one) => one.level)) : null;
-    const told = most === null ? faultOf(view) : `${said.aircraft.length} aircraft, the greatest alert level is ${most}`;
+    const most = said ? Math.max(0, ...said.aircraft.map((one) => one.level)) : 0;
+    const told = said ? `${said.aircraft.length} aircraft, the greatest alert level is ${most}` : faultOf(view);
     svg.setAttribute("aria-label", `Display under ${view.name}: ${told}`);
   }
 
+  /** @type {(view: Display) => Said | null} */
   const saidOf = (view) => (isAnswered(view) && !state.stale ? view.said : null);
+  /** @type {(view: Display) => string} */
   const faultOf = (view) => state.stale || (isAnswered(view) ? view.fault : "a long moment: it is being decided …");
 
+  /** @type {(view: Display) => Look} */
   function lookOf(view) {
     const { own } = state.current;
     const { held } = state;
@@ -216,6 +242,7 @@
       chosen: state.chosen, held: held ? held.own : null };
   }
 
+  /** @type {(view: Display) => Model} */
   function modelOf(view) {
     const { time, own, traffic } = state.current;
     return { time, clock: ui.clockOf(time), own, traffic, config: view.config, configs: shownViews().map((it) => it.config), said: saidOf(view),
@@ -223,9 +250,11 @@
       note: state.edited ? "changed by hand" : state.name, lacks: Boolean(ui.lackOf(state.index)) };
   }
 
-  /** Where the ownship and the aircraft were in the moments before. */
+  /** Where the ownship and the aircraft were in the moments before.
+   *  @type {() => Model["trail"]} */
   function trail() {
     const first = Math.max(0, state.index - 12);
+    /** @type {Moment[]} */
     const before = Array.from({ length: state.index - first }, (_, i) => state.moments.at(first + i));
     return before.flatMap((moment, i) => {
       const share = 0.2 + (0.6 * (i + 1)) / before.length;
@@ -233,9 +262,11 @@
     });
   }
 
+  /** @type {(figure: HTMLElement, view: Display) => void} */
   function paintCaption(figure, view) {
     const caption = figure.querySelector("figcaption");
     if (!caption.children.length) {
+      /** @type {(what: string, words: string, name: string) => string} */
       const button = (what, words, name) => `<button data-do="${what}" aria-label="${name}" title="${name}">${words}</button>`;
       caption.innerHTML = `<button data-do="up" aria-pressed="false">Track up</button>
         <button data-do="paths" aria-pressed="false" title="The ways to the closest approach, if all fly straight on: of the aircraft that
@@ -273,14 +304,17 @@
 
   // ---- what is chosen
 
-  /** The parts of a key: what is moved, and of which aircraft; of the ownship where none is called. */
-  const partsOf = (key) => /^([^:]*):?(.*)$/s.exec(key).slice(1);
+  /** The parts of a key: what is moved, and of which aircraft; of the ownship where none is called.
+   *  @type {(key: string) => string[]} */
+  const partsOf = (key) => must(/^([^:]*):?(.*)$/s.exec(key)).slice(1); // which each text has
+  /** @type {(key: string) => Aircraft | undefined} */
   function aircraftOf(key) {
     const [, called] = partsOf(key);
     const { traffic } = state.current;
     return traffic.find((one) => calledIn(traffic, one) === called);
   }
 
+  /** @type {(key: string) => void} */
   function choose(key) {
     state.chosen = key;
     changed();
@@ -288,13 +322,15 @@
 
   // ---- views
 
+  /** @type {(what: string | undefined, view: Display) => void} */
   function act(what, view) {
+    /** @type {(list: number[], value: number, by: number) => number} */
     const step = (list, value, by) => list[clamp(list.indexOf(value) + by, 0, list.length - 1)];
     const { look } = view;
     if (what === "up") look.trackUp = !look.trackUp;
     if (what === "auto") look.auto = !look.auto;
     if (what === "paths") look.paths = !look.paths;
-    if (["near", "wide", "fit"].includes(what)) look.auto = false; // a range that is chosen is fixed
+    if (what === "near" || what === "wide" || what === "fit") look.auto = false; // a range that is chosen is fixed
     if (what === "near" || what === "wide") look.range = step(RANGES_NM, look.range, what === "wide" ? 1 : -1);
     if (what === "fit") look.range = leastRange(farthest(state.current) * ROOM);
     if (what === "low" || what === "high") look.heights = step(VIEW_HEIGHTS, look.heights, what === "high" ? 1 : -1);
@@ -302,9 +338,12 @@
     if (what) changed();
   }
 
-  /** The least range of the list in which most of the traffic lies, at the first moment and in all of some. */
+  /** The least range of the list in which most of the traffic lies, at the first moment and in all of some.
+   *  @type {(moments: Moment[]) => number} */
   function fitting(moments) {
+    /** @type {(moment: Moment) => number[]} */
     const farOf = ({ own, traffic }) => traffic.map((one) => distance(own, one));
+    /** @type {(far: number[]) => number} */
     const mostOf = (far) => (far.length ? far.sort((a, b) => a - b)[Math.ceil(far.length * 0.85) - 1] : 0);
     const most = Math.max(mostOf(moments.flatMap(farOf)), mostOf(farOf(moments[0]))) || 6;
     return leastRange(most * 1.12);

@@ -4,7 +4,7 @@
  * for a gap between two moments. Each column is painted once, as soon as all its moments are decided. */
 "use strict";
 (function (root) {
-  const { clamp, wrap } = daa;
+  const { must, clamp, wrap } = daa;
   const MARGIN = { left: 78, right: 10, bottom: 18 };
   const MARKS = 7; // the row of marks at the top
   const ROW = 14;
@@ -15,7 +15,8 @@
 
   const MOST_STEPS = 2000; // of a longer recording so many steps, evenly spread, stand for all
 
-  /** The median step from moment to moment: so long the last one is drawn, and one before a gap four times as long. */
+  /** The median step from moment to moment: so long the last one is drawn, and one before a gap four times as long.
+   *  @type {(times: Float64Array) => number} */
   function medianStep(times) {
     const count = Math.min(times.length - 1, MOST_STEPS);
     const steps = Float64Array.from({ length: Math.max(count, 0) }, (_, i) => {
@@ -25,7 +26,8 @@
     return steps.length ? steps[Math.floor(steps.length / 2)] : 1;
   }
 
-  /** The columns of a stretch of time: from when to when each stands, and for which moments. Before a gap one ends. */
+  /** The columns of a stretch of time: from when to when each stands, and for which moments. Before a gap one ends.
+   *  @type {(g: StripPlaces, times: Float64Array) => Column[]} */
   function columnsOf(g, times) {
     const begin = Math.max(lastAt(times, g.from), 0);
     const end = lastAt(times, g.upto);
@@ -41,7 +43,8 @@
     return columns;
   }
 
-  /** The index of the last time that is no later than one, or -1. */
+  /** The index of the last time that is no later than one, or -1.
+   *  @type {(times: Float64Array, time: number) => number} */
   function lastAt(times, time) {
     let [low, high] = [-1, times.length - 1];
     while (low < high) {
@@ -52,10 +55,13 @@
     return low;
   }
 
-  /** What a column shows, or null where one of its moments is not decided. */
+  /** What a column shows, or null where one of its moments is not decided.
+   *  @type {(column: Column, notes: any, others: any, step: number) => ColumnSum | null} */
   function sumOf({ first, last }, notes, others, step) {
     for (let index = first; index <= last; index++) if (!notes.has(index)) return null;
+    /** @type {Note[]} */
     const some = Array.from({ length: last - first + 1 }, (_, i) => notes.at(first + i));
+    /** @type {ColumnSum} */
     const sum = { levels: new Map(), bands: [], trk: some[0].trk, open: [], isOther: false };
     for (const note of some) for (const [id, level] of note.levels) sum.levels.set(id, Math.max(level, sum.levels.get(id) || 0));
     sum.isOther = Boolean(others) && some.some((note, i) => others.has(first + i) && differs(note, others.at(first + i)));
@@ -64,20 +70,24 @@
     return sum;
   }
 
+  /** @type {(column: Column, lacks: (index: number) => boolean) => boolean} */
   function lacksSome({ first, last }, lacks) {
     for (let index = first; index <= last; index++) if (lacks(index)) return true;
     return false;
   }
 
-  /** Whether two configurations alert or answer otherwise at a moment. */
+  /** Whether two configurations alert or answer otherwise at a moment.
+   *  @type {(one: Note, other: Note) => boolean} */
   const differs = (one, other) => one.answers !== other.answers || String(one.levels) !== String(other.levels);
 
-  /** The greatest level of several moments at each candidate, as runs. */
+  /** The greatest level of several moments at each candidate, as runs.
+   *  @type {(notes: Note[], step: number) => [number, number, number][]} */
   function greatest(notes, step) {
     const levels = new Uint8Array(FULL_TURN / step);
     for (const { bands } of notes) {
       for (const [from, upto, level] of bands) for (let i = from / step; i <= upto / step; i++) levels[i] = Math.max(levels[i], level);
     }
+    /** @type {[number, number, number][]} */
     const runs = [];
     levels.forEach((level, i) => {
       const before = runs[runs.length - 1];
@@ -88,9 +98,10 @@
   }
 
   /** Where things are: rows of the aircraft that alert (those that alert most, where there is no room for all), the tracks under them, and the
-   *  times along the foot. */
+   *  times along the foot.
+   *  @type {(size: Size, model: StripModel) => StripPlaces} */
   function geometryOf({ width, height }, { times, most, ids, window, others, trk }) {
-    const loud = [...most.keys()].sort((a, b) => most.get(b) - most.get(a));
+    const loud = [...most].sort(([, one], [, other]) => other - one).map(([id]) => id);
     const rows = clamp(loud.length, 0, Math.floor((0.55 * (height - MARGIN.bottom)) / ROW));
     const shown = new Set(loud.slice(0, rows));
     const last = times[times.length - 1] + medianStep(times);
@@ -104,24 +115,25 @@
   }
 
   class Strip {
-    /** @type {HTMLCanvasElement} */ canvas;
-    /** @type {CanvasRenderingContext2D} */ context;
-    /** @type {string} */ key;
-    /** @type {any[]} */ columns;
-    /** @type {boolean} */ isCut;
+    key = "";
+    /** @type {Column[]} */ columns = [];
+    isCut = false;
     /** @type {any} */ g;
     /** @type {any} */ notes;
     /** @type {any} */ others;
-    /** @type {number} */ scale;
+    scale = 1;
 
+    /** @param {HTMLCanvasElement} canvas */
     constructor(canvas) {
-      Object.assign(this, { canvas, context: canvas.getContext("2d"), key: "", columns: [], isCut: false });
+      this.canvas = canvas;
+      this.context = must(canvas.getContext("2d"));
     }
 
     /** Draws what is known of the moments, and only what is new where all else is as it was. `paints` are the colours and patterns; `telling` writes
      *  a time. A model has: times, notes, others (of a second configuration, or null), most (the greatest level of each that alerts), ids, lacks
      *  (whether a moment is incomplete), the window of time or null, the first track, and the step of tracks. After so many ms as there is
-     *  patience for it is cut (`isCut`), and the next call goes on. */
+     *  patience for it is cut (`isCut`), and the next call goes on.
+     *  @type {(size: Size, scale: number, model: StripModel, paints: Paints, telling: (time: number) => string, patience?: number) => StripPlaces} */
     draw(size, scale, model, paints, telling, patience = Infinity) {
       const g = geometryOf(size, model);
       const key = [size.width, size.height, scale, g.from, g.upto, model.times.length, g.ids, g.hidden, model.step, paints.key].join(" ");
@@ -144,7 +156,8 @@
       return g;
     }
 
-    /** Nothing is known yet: as on the display the ground is that of what has no answer, since a moment that is not decided is not clear. */
+    /** Nothing is known yet: as on the display the ground is that of what has no answer, since a moment that is not decided is not clear.
+     *  @type {(size: Size, scale: number, paints: Paints, telling: (time: number) => string) => void} */
     begin({ width, height }, scale, paints, telling) {
       const { g, context, canvas } = this;
       Object.assign(canvas, { width: width * scale, height: height * scale });
@@ -154,7 +167,7 @@
       this.fill(paints.unknown, MARGIN.left, 0, wide, g.top + g.tall);
       context.font = FACE;
       const rows = this.others ? [...g.ids, "differs"] : g.ids;
-      rows.forEach((id, row) => {
+      rows.forEach((/** @type {string} */ id, /** @type {number} */ row) => {
         this.write(id, 4, g.rowOf(row) - 2, paints.ink, "left");
         this.fill(paints.line, MARGIN.left, g.rowOf(row), wide, 1);
       });
@@ -165,6 +178,7 @@
       this.writeTimes(paints, telling);
     }
 
+    /** @type {(paints: Paints, telling: (time: number) => string) => void} */
     writeTimes(paints, telling) {
       const { g } = this;
       const y = g.height - 4;
@@ -178,65 +192,76 @@
       if (g.hidden) this.write(`${g.hidden} more alert`, 4, y, paints.faint, "left");
     }
 
-    /** Where a column begins, and how wide it is: on whole points of the screen, so that no seam is seen between two. */
+    /** Where a column begins, and how wide it is: on whole points of the screen, so that no seam is seen between two.
+     *  @type {(column: Column) => Pair} */
     stretchOf({ from, upto }) {
       const { g, scale } = this;
+      /** @type {(x: number) => number} */
       const on = (x) => Math.round(clamp(x, MARGIN.left, g.width - MARGIN.right) * scale) / scale;
       const x = on(g.x(from));
       return [x, Math.max(on(g.x(upto)) - x, NARROWEST)];
     }
 
-    /** All that a column shows. */
+    /** All that a column shows.
+     *  @type {(column: Column, sum: ColumnSum, step: number, paints: Paints) => void} */
     paint(column, sum, step, paints) {
       const { g } = this;
       const [x, wide] = this.stretchOf(column);
       this.fill(paints.clear, x, 0, wide, g.top + g.tall);
-      g.ids.forEach((id, row) => {
+      g.ids.forEach((/** @type {string} */ id, /** @type {number} */ row) => {
         const level = sum.levels.get(id);
         if (level) this.fill(paints.levels[level], x, g.rowOf(row) - (ROW - 3) * (level / 4), wide, (ROW - 3) * (level / 4));
       });
       if (sum.isOther) this.fill(paints.ink, x, g.rowOf(g.ids.length) - ROW + 4, wide, ROW - 4);
       for (const [from, upto, level] of sum.bands) if (level) this.stretch(paints.levels[level], x, wide, from - step / 2, upto + step / 2);
+      /** @type {(degree: number) => number} */
       const y = (degree) => g.top + g.tall - (wrap(degree - g.foot) / FULL_TURN) * g.tall;
       this.fill(paints.own, x, y(sum.trk) - 1, wide, 2);
       for (const to of sum.open) this.fill(paints.open, x + wide / 2 - 2, y(to) - 2, 4, 4);
     }
 
-    /** Of a column in which some moment is incomplete: hatched at its top. */
+    /** Of a column in which some moment is incomplete: hatched at its top.
+     *  @type {(column: Column, paints: Paints) => void} */
     markLack(column, paints) {
       const [from, wide] = this.stretchOf(column);
       for (let x = from; x < from + wide; x += 4) this.fill(paints.bad, x, 0, Math.min(2, from + wide - x), MARKS - 2);
     }
 
-    /** A stretch of tracks: two boxes where it runs over the strip's foot. */
+    /** A stretch of tracks: two boxes where it runs over the strip's foot.
+     *  @type {(paint: Paint, x: number, wide: number, from: number, upto: number) => void} */
     stretch(paint, x, wide, from, upto) {
       const { g } = this;
       const each = g.tall / FULL_TURN;
       const low = wrap(from - g.foot);
       const high = low + upto - from;
+      /** @type {(a: number, b: number) => void} */
       const part = (a, b) => this.fill(paint, x, g.top + g.tall - b * each, wide, (b - a) * each);
       part(low, Math.min(high, FULL_TURN));
       if (high > FULL_TURN) part(0, high - FULL_TURN);
     }
 
+    /** @type {(paint: Paint, x: number, y: number, wide: number, tall: number) => void} */
     fill(paint, x, y, wide, tall) {
       this.context.fillStyle = paint;
       this.context.fillRect(x, y, wide, tall);
     }
 
+    /** @type {(words: string, x: number, y: number, paint: Paint, align: CanvasTextAlign) => void} */
     write(words, x, y, paint, align) {
       Object.assign(this.context, { fillStyle: paint, textAlign: align });
       this.context.fillText(words, x, y);
     }
   }
 
-  /** The least of the steps of times that people count in that is no shorter. */
+  /** The least of the steps of times that people count in that is no shorter.
+   *  @type {(least: number) => number} */
   function niceStep(least) {
     const known = [1, 2, 5, 10, 20, 30, 60, 120, 300, 600, 1200, 1800, 3600, 7200, 10800, 21600, 43200];
     return known.find((step) => step >= least) ?? Math.ceil(least / 86400) * 86400;
   }
 
-  /** The strip in words: of moments that are not decided yet no level is told. */
+  /** The strip in words: of moments that are not decided yet no level is told.
+   *  @type {(count: number, decided: number, most: Map<string, number>) => string} */
   function toldOf(count, decided, most) {
     const level = Math.max(0, ...most.values());
     if (decided === count) return `${count} moments, the greatest alert level is ${level}`;
@@ -247,16 +272,18 @@
 
   const MARK_SIZES = [0, 8, 10, 9, 6];
 
-  /** The paints of the strip on the ground of the screen, or on paper: a level is told by its colour and its pattern. */
+  /** The paints of the strip on the ground of the screen, or on paper: a level is told by its colour and its pattern.
+   *  @type {(context: CanvasRenderingContext2D, isPaper: boolean) => Paints} */
   function stripPaints(context, isPaper) {
     const probe = document.body.appendChild(document.createElement("i"));
     if (isPaper) probe.style.colorScheme = "light";
+    /** @type {(name: string) => string} */
     const colour = (name) => {
       probe.style.color = `var(--${name})`;
       return getComputedStyle(probe).color;
     };
     const names = { unknown: "unknown", clear: "l0-fill", own: "own", open: "open", ink: "ink", faint: "faint", line: "line", bad: "bad" };
-    /** @type {Record<string, any>} */
+    /** @type {any} */
     const made = Object.fromEntries(Object.entries(names).map(([name, variable]) => [name, colour(variable)]));
     made.levels = [0, 1, 2, 3, 4].map((level) => level && patternOf(context, level, colour(`l${level}-fill`), colour(`l${level}-mark`)));
     made.key = `${made.clear} ${made.ink}`;
@@ -264,11 +291,12 @@
     return made;
   }
 
-  /** Dots, stripes, a lattice, bars: as the displays have them. */
+  /** Dots, stripes, a lattice, bars: as the displays have them.
+   *  @type {(context: CanvasRenderingContext2D, level: number, fill: string, mark: string) => CanvasPattern} */
   function patternOf(context, level, fill, mark) {
     const size = MARK_SIZES[level];
     const tile = Object.assign(document.createElement("canvas"), { width: size, height: size });
-    const drawn = tile.getContext("2d");
+    const drawn = must(tile.getContext("2d"));
     drawn.fillStyle = fill;
     drawn.fillRect(0, 0, size, size);
     drawn.strokeStyle = drawn.fillStyle = mark;
@@ -281,7 +309,7 @@
     }
     if (level === 1) drawn.fill();
     else drawn.stroke();
-    return context.createPattern(tile, "repeat");
+    return must(context.createPattern(tile, "repeat")); // a tile that has points
   }
 
   Object.assign(root.daa, { Strip, stripPaints, stripMargin: MARGIN, toldOfStrip: toldOf, differs, lastAt });

@@ -12,17 +12,18 @@
   const OFTEN = 200; // ms: between two drawings of what is new
 
   class Survey {
-    /** @type {number} */ place;
-    /** @type {Uint8Array} */ module;
-    /** @type {any[]} */ desks;
-    /** @type {number} */ job;
-    /** @type {any} */ notes;
-    /** @type {Map<string, number>} */ most;
-    /** @type {number} */ decided;
-    /** @type {number} */ next;
+    /** @type {any[]} */ desks = [];
+    job = 0;
+    notes = new daa.Notes();
+    /** @type {Map<string, number>} */ most = new Map();
+    decided = 0;
+    next = 0;
 
+    /** @param {number} place
+     *  @param {Uint8Array} module */
     constructor(place, module) {
-      Object.assign(this, { place, module, desks: [], job: 0, notes: new daa.Notes(), most: new Map(), decided: 0, next: 0 });
+      this.place = place;
+      this.module = module;
     }
 
     /** Asks for every moment anew, under the configuration that the view has now. */
@@ -46,13 +47,15 @@
       if (this.desks.length) this.askAll(this.desks[0]);
     }
 
-    /** Keeps the note of the next moment, which was decided otherwise. */
+    /** Keeps the note of the next moment, which was decided otherwise.
+     *  @type {(index: number, note: Note | null) => void} */
     give(index, note) {
       this.next = index + 1;
       this.take(1, daa.packNotes([note], index));
     }
 
-    /** The first moments are no more; where some are being asked for, all are asked for anew. */
+    /** The first moments are no more; where some are being asked for, all are asked for anew.
+     *  @type {(count: number) => void} */
     drop(count) {
       if (this.decided < this.next) {
         this.begin();
@@ -63,10 +66,12 @@
       for (let index = 0; index < this.notes.length; index++) this.noteMost(this.notes.at(index)?.levels ?? []);
     }
 
+    /** @type {(levels: [string, number][]) => void} */
     noteMost(levels) {
       for (const [id, level] of levels) if (level > (this.most.get(id) || 0)) this.most.set(id, level);
     }
 
+    /** @type {(desk: any) => Promise<void>} */
     async askAll(desk) {
       const { job } = this;
       const { bytes } = state.views[this.place].config;
@@ -88,7 +93,8 @@
       }
     }
 
-    /** Keeps the notes of some moments, packed. */
+    /** Keeps the notes of some moments, packed.
+     *  @type {(count: number, pack: NotePack) => void} */
     take(count, pack) {
       this.notes.put(pack);
       this.noteMost(Array.from(pack.levels, (each) => [pack.names[each >> 3], each & 7]));
@@ -125,24 +131,29 @@
     return Promise.all(all);
   }
 
-  /** The next moment after, or before, the present one that holds; its index, or -1. */
+  /** The next moment after, or before, the present one that holds; its index, or -1.
+   *  @type {(by: number, holds: (index: number) => boolean) => number} */
   function search(by, holds) {
     for (let index = state.index + by; index >= 0 && index < state.moments.length; index += by) if (holds(index)) return index;
     return -1;
   }
 
+  /** @type {(index: number) => number} */
   const greatest = (index) => state.surveys[0].notes.greatest(index);
 
-  /** Where an alert begins or becomes greater. */
+  /** Where an alert begins or becomes greater.
+   *  @type {(by: number) => number} */
   const nextAlert = (by) => search(by, (index) => greatest(index) > (index ? greatest(index - 1) : 0));
 
-  /** Whether both configurations are known to differ at a moment. */
+  /** Whether both configurations are known to differ at a moment.
+   *  @type {(index: number) => boolean} */
   function isOther(index) {
     const [one, other] = state.surveys.map(({ notes }) => notes.at(index));
     return Boolean(one && other) && daa.differs(one, other);
   }
 
-  /** Where the two configurations begin to differ. */
+  /** Where the two configurations begin to differ.
+   *  @type {(by: number) => number} */
   const nextDifference = (by) => search(by, (index) => isOther(index) && !(index && isOther(index - 1)));
 
   Object.assign(ui, { Survey, survey, soon, nextAlert, nextDifference, isOther });

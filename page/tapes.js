@@ -4,7 +4,8 @@
 (function (root) {
   const { n, text, clamp, paint, edge, badge, diamond, TAPES, shownValue, wordsOfBand } = daa.art;
 
-  /** What part of the values a tape shows, and where: all speeds, and altitudes round the ownship's. */
+  /** What part of the values a tape shows, and where: all speeds, and altitudes round the ownship's.
+   *  @type {(view: Look & { g: Geometry }, model: Pick<Model, "config" | "own">, kind: TapeKind) => Scale} */
   function scaleOf(view, model, kind) {
     const { top, bottom } = view.g.tapes[kind];
     const grid = model.config.grids[kind];
@@ -20,6 +21,7 @@
       value: (y) => low + ((bottom - y) / room) * (high - low) };
   }
 
+  /** @type {(view: View, model: Model, kind: TapeKind) => string} */
   function tape(view, model, kind) {
     const { g } = view;
     const t = g.tapes[kind];
@@ -35,9 +37,10 @@
       out += `<path d="M${n(t.x - 6)} ${n(y)}h6" stroke="var(--faint)"/>`
         + text(t.x - 9, y + g.font * 0.36, shownValue(kind, v), `class="small end" font-size="${g.font - 1}"`);
     }
-    return out + (kind === "alt" ? daa.art.aloft(view, model, s) : "") + (model.said ? answersOnTape(view, model, kind, s) : "");
+    return out + (kind === "alt" ? daa.art.aloft(view, model, s) : "") + (model.said ? answersOnTape(view, model.said, kind, s) : "");
   }
 
+  /** @type {(view: View, model: Model, kind: TapeKind, band: Band, s: Scale) => string} */
   function bandOnTape(view, model, kind, band, s) {
     const { g } = view;
     const { x, band: wide } = g.tapes[kind];
@@ -54,7 +57,8 @@
     return out + (band.level && y !== null ? badge(g, x + wide / 2, y, band.level) : "");
   }
 
-  /** Where the number of a band's level has room beside the ownship's pointer, or null. */
+  /** Where the number of a band's level has room beside the ownship's pointer, or null.
+   *  @type {(g: Geometry, top: number, tall: number, own: number) => number | null} */
   function badgeHeight(g, top, tall, own) {
     const room = g.font * 1.5;
     if (tall < room) return null;
@@ -64,16 +68,19 @@
     return top + tall - own > 1.9 * room ? own + room : null;
   }
 
-  function answersOnTape(view, { said }, kind, s) {
+  /** @type {(view: View, said: Said, kind: TapeKind, s: Scale) => string} */
+  function answersOnTape(view, said, kind, s) {
     const { g } = view;
     const t = g.tapes[kind];
     const right = t.x + t.band;
+    /** @type {(value: number, mark: (x: number, y: number) => string, style: string) => string} */
     const put = (value, mark, style) => {
       const y = s.y(value);
       const beyond = value > s.high ? " ▲" : value < s.low ? " ▼" : "";
       const words = t.labels ? shownValue(kind, value) + beyond : beyond.trim();
       return mark(right + 2, y) + text(right + 15, y + g.font * 0.36, words, `class="${style} halo" font-size="${g.font}"`);
     };
+    /** @type {(x: number, y: number) => string} */
     const triangle = (x, y) => `<path d="M${n(x)} ${n(y)}l12 -6.5v13z" fill="var(--open)" stroke="var(--ground)"/>`;
     let out = "";
     for (const to of Object.values(said.resolve[kind])) if (typeof to === "number") out += put(to, triangle, "open");
@@ -82,6 +89,7 @@
     return out;
   }
 
+  /** @type {(range: number, most: number) => number} */
   function niceStep(range, most) {
     for (let power = 1; ; power *= 10) for (const factor of [1, 2, 5]) if (range / (factor * power) <= most) return factor * power;
   }

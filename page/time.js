@@ -3,7 +3,7 @@
 "use strict";
 (function () {
   const { ui } = daa;
-  const { clamp } = daa;
+  const { clamp, must } = daa;
   const { $, state, setText, changed, touched, copy } = ui;
   const PAPER = { width: 1100, height: 150 };
   const MOST_UNDONE = 200;
@@ -16,17 +16,20 @@
 
   // ---- the moments, as they were recorded and as they were changed by hand
 
-  /** What a moment lacks in words, or nothing. */
+  /** What a moment lacks in words, or nothing.
+   *  @type {(index: number) => string} */
   function lackOf(index) {
     if (index >= state.moments.length) return "";
     const missing = daa.lacksOf({ comments: state.moments.comments(index) }).map(({ id, why }) => `without ${id === "*" ? "" : `${id}: `}${why}`);
     return [state.moments.fault(index), state.alone, daa.wordsOfLack(missing, missing.length, "are missing")].filter(Boolean).join("; ");
   }
 
+  /** @type {(index: number) => boolean} */
   const lacks = (index) => Boolean(state.alone || state.moments.fault(index))
-    || state.moments.comments(index).some((text) => daa.lacksOf({ comments: [text] }).length > 0);
+    || state.moments.comments(index).some((/** @type {string} */ text) => daa.lacksOf({ comments: [text] }).length > 0);
 
-  /** Why nothing is known before a moment, or after it, in words; or nothing. */
+  /** Why nothing is known before a moment, or after it, in words; or nothing.
+   *  @type {(index: number) => string} */
   function silenceOf(index) {
     const { moments } = state;
     if (index >= moments.length) return "";
@@ -35,19 +38,22 @@
     return [before && `no moment before this one: ${before}`, after && `no moment after this one${upto}: ${after}`].filter(Boolean).join("; ");
   }
 
+  /** @type {(index: number) => void} */
   function go(index) {
     const edit = state.edits.get(index);
     Object.assign(state, { index, current: edit ? copy(edit) : state.moments.at(index), edited: Boolean(edit) });
     touched();
   }
 
-  /** Goes to another moment by hand; where there is none on that side, the one that is shown stays. */
+  /** Goes to another moment by hand; where there is none on that side, the one that is shown stays.
+   *  @type {(index: number) => void} */
   function goTo(index) {
     pause();
     const to = clamp(index, 0, state.moments.length - 1);
     if (to !== state.index) go(to);
   }
 
+  /** @type {any} */
   let gesture = null; // what is held, or typed in, makes one step
 
   /** What is shown was changed by hand: it stays changed until it is taken back. */
@@ -62,11 +68,13 @@
     touched();
   }
 
+  /** @type {(list: Change[], index: number) => void} */
   const remember = (list, index) => {
     list.push({ index, edit: state.edits.get(index) ?? null });
     if (list.length > MOST_UNDONE) list.shift();
   };
 
+  /** @type {(index: number, edit: Moment | null) => void} */
   function putEdit(index, edit) {
     if (edit) state.edits.set(index, edit);
     else state.edits.delete(index);
@@ -83,7 +91,8 @@
     putEdit(state.index, null);
   }
 
-  /** Takes the last change back, or makes it again. */
+  /** Takes the last change back, or makes it again.
+   *  @type {(from: Change[], to: Change[]) => void} */
   function undo(from, to) {
     const last = from.pop();
     if (!last) return;
@@ -136,8 +145,11 @@
 
   // ---- the clock
 
+  /** @type {(number: number) => string} */
   const two = (number) => String(Math.floor(number)).padStart(2, "0");
+  /** @type {(time: number) => string} */
   const ofDay = (time) => `${two((time % DAY) / 3600)}:${two((time % 3600) / 60)}:${two(time % 60)}`;
+  /** @type {Record<string, (time: number) => string>} */
   const CLOCKS = {
     s: (time) => `${time} s`,
     since: (time) => {
@@ -148,14 +160,17 @@
     utc: (time) => `${new Date(1000 * time).toISOString().slice(0, 19).replace("T", " ")}Z`,
   };
 
-  /** A time as the clock tells it. */
+  /** A time as the clock tells it.
+   *  @type {(time: number) => string} */
   const clockOf = (time) => (CLOCKS[$("clock-form").value] ?? CLOCKS.s)(time);
-  /** The same beside a tick, where the date would take too much room. */
+  /** The same beside a tick, where the date would take too much room.
+   *  @type {(time: number) => string} */
   const tickOf = (time) => ($("clock-form").value === "utc" ? `${ofDay(time)}Z` : clockOf(Math.round(time)));
 
   // ---- the axis
 
-  /** The stretch of time that the axis shows, from a second on to another; null where it is all. */
+  /** The stretch of time that the axis shows, from a second on to another; null where it is all.
+   *  @type {(window: Pair | null) => void} */
   function setWindow(window) {
     const [first, last] = wholeOf();
     if (!window || window[1] - window[0] >= last - first) state.window = null;
@@ -167,9 +182,11 @@
     changed();
   }
 
+  /** @type {() => Pair} */
   const wholeOf = () => [state.moments.time(0), Math.max(state.moments.time(state.moments.length - 1), state.moments.time(0) + 1)];
 
-  /** Shows less time, or more, round a second. */
+  /** Shows less time, or more, round a second.
+   *  @type {(factor: number, at?: number) => void} */
   function zoom(factor, at = state.current.time) {
     const [from, upto] = state.window ?? wholeOf();
     setWindow([at - (at - from) / factor, at + (upto - at) / factor]);
@@ -183,22 +200,24 @@
     state.window = [from, from + wide];
   }
 
+  /** @type {any} */
   let strip = null;
-  let [times, timesOf] = [null, null];
+  let times = new Float64Array(0);
+  /** @type {any[]} */
+  let timesOf = []; // the moments whose times they are, and how many
   let goesOn = false; // where drawing was cut
+  /** @type {(() => void)[]} */
   const waiting = [];
 
   function paintTime() {
     if (!state.current || !state.moments.length) return;
     const canvas = $("strip");
-    const { width, height } = state.paper ? PAPER : canvas.parentElement.getBoundingClientRect();
+    const { width, height } = state.paper ? PAPER : must(canvas.parentElement).getBoundingClientRect();
     if (width < 120 || height < 40) return;
     strip ??= new daa.Strip(canvas);
     const { moments, surveys: [first, second], views } = state;
-    if (timesOf !== `${moments.blocks.length} ${moments.length}` || times?.of !== moments) {
-      times = Object.assign(moments.times(), { of: moments });
-      timesOf = `${moments.blocks.length} ${moments.length}`;
-    }
+    const isOf = [moments, moments.blocks.length, moments.length];
+    if (isOf.some((it, place) => it !== timesOf[place])) [times, timesOf] = [moments.times(), isOf];
     const shown = times.subarray(0, shownOf(times.length));
     seePresent();
     const size = { width: Math.round(width), height: Math.round(height) };
@@ -217,17 +236,20 @@
     } else if (!strip.isCut) for (const act of waiting.splice(0)) act();
   }
 
-  /** Acts once all that is known is drawn. */
+  /** Acts once all that is known is drawn.
+   *  @type {(act: () => void) => void} */
   const onceDrawn = (act) => { if (goesOn) waiting.push(act); else act(); };
 
-  /** How many moments the axis shows of a recording that is still read: it grows by steps, since each time all is drawn anew. */
+  /** How many moments the axis shows of a recording that is still read: it grows by steps, since each time all is drawn anew.
+   *  @type {(count: number) => number} */
   function shownOf(count) {
     let shown = LEAST_SHOWN;
     while (state.reading && shown * GROWTH <= count) shown = Math.floor(shown * GROWTH);
     return state.reading ? Math.min(shown, count) : count;
   }
 
-  /** The greatest level of each that alerts under a configuration that is shown. */
+  /** The greatest level of each that alerts under a configuration that is shown.
+   *  @type {() => Map<string, number>} */
   function mostOf() {
     const [first, second] = state.surveys;
     if (!state.compare) return first.most;
@@ -236,15 +258,19 @@
     return both;
   }
 
-  /** The present moment, from its time to the next one, and the moments that were changed by hand. */
+  /** The present moment, from its time to the next one, and the moments that were changed by hand.
+   *  @type {(g: StripPlaces, size: Size) => void} */
   function paintMarks(g, { width, height }) {
+    /** @type {(value: number) => string} */
     const n = (value) => String(Math.round(value * 10) / 10);
+    /** @type {(index: number) => Pair} */
     const wideOf = (index) => {
       const x = g.x(state.moments.time(index));
       const next = index + 1 < state.moments.length ? state.moments.time(index + 1) : g.last;
       return [x, Math.max(g.x(Math.min(next, state.moments.time(index) + 4 * g.step)) - x, 3)];
     };
     const [x, wide] = wideOf(state.index);
+    /** @type {(at: number) => boolean} */
     const isIn = (at) => at >= daa.stripMargin.left - 3 && at <= g.width - daa.stripMargin.right + 3;
     const changes = [...state.edits.keys()].map(wideOf).filter(([at]) => isIn(at))
       .map(([at, long]) => `M${n(at + long / 2 - 4)} 0h8l-4 7z`).join("");
@@ -260,7 +286,7 @@
     const axis = $("axis");
     const told = daa.toldOfStrip(moments.length, first.decided, first.most);
     const shown = clockOf(current.time);
-    axis.setAttribute("aria-valuenow", current.time);
+    axis.setAttribute("aria-valuenow", String(current.time));
     axis.setAttribute("aria-valuemin", moments.time(0));
     axis.setAttribute("aria-valuemax", moments.time(moments.length - 1));
     const spoken = $("clock-form").value === "s" ? `${current.time} seconds` : shown;
@@ -277,7 +303,9 @@
     setText($("progress"), [reading, deciding].filter(Boolean).join("; "));
   }
 
-  const axisTime = (event) => state.axis.time(event.clientX - $("axis").getBoundingClientRect().left);
+  /** @type {(event: MouseEvent) => number} */
+  const axisTime = (event) => must(state.axis).time(event.clientX - $("axis").getBoundingClientRect().left);
+  /** @type {(event: MouseEvent) => void} */
   const scrub = (event) => goTo(state.moments.indexAt(axisTime(event)));
 
   $("axis").addEventListener("pointerdown", (event) => {
@@ -285,23 +313,26 @@
     $("axis").setPointerCapture(event.pointerId);
     if (event.pointerType !== "touch") scrub(event);
   });
-  $("axis").addEventListener("pointermove", (event) => { if (event.buttons) scrub(event); });
+  $("axis").addEventListener("pointermove", (event) => { if (event.buttons && state.axis) scrub(event); });
   $("axis").addEventListener("click", (event) => { if (state.axis && event.detail !== 0) scrub(event); });
   $("axis").addEventListener("wheel", (event) => {
-    if (event.ctrlKey || ui.scrolls() || !event.deltaY) return;
+    if (event.ctrlKey || ui.scrolls() || !event.deltaY || !state.axis) return;
     event.preventDefault();
     zoom(2 ** (-(event.deltaMode ? 40 * event.deltaY : event.deltaY) / 240), axisTime(event));
   }, { passive: false });
   $("axis").addEventListener("keydown", (event) => {
     if (event.ctrlKey || event.metaKey || event.altKey) return;
     const last = state.moments.length - 1;
-    const to = { ArrowRight: state.index + 1, ArrowUp: state.index + 1, ArrowLeft: state.index - 1, ArrowDown: state.index - 1,
-      PageUp: state.index + FAR, PageDown: state.index - FAR, Home: 0, End: last }[event.key];
+    /** @type {Record<string, number>} */
+    const places = { ArrowRight: state.index + 1, ArrowUp: state.index + 1, ArrowLeft: state.index - 1, ArrowDown: state.index - 1,
+      PageUp: state.index + FAR, PageDown: state.index - FAR, Home: 0, End: last };
+    const to = places[event.key];
     if (to === undefined) return;
     event.preventDefault();
     goTo(to);
   });
 
+  /** @type {(index: number) => void} */
   const goToFound = (index) => { if (index >= 0) goTo(index); };
   const alertAfter = () => goToFound(ui.nextAlert(1));
   const alertBefore = () => goToFound(ui.nextAlert(-1));

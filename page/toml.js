@@ -4,11 +4,14 @@
  * The engine's module has no allocator, so the text is read here, and the codes 2 to 5 are found here. The codes 6 to 8 are
  * the engine's (daa_check); the ranges below only name the key. Both are as in tools/toml_1_1.py and tools/daidalus_files.py. */
 "use strict";
+/** @type {(root: Root) => void} */
 function daaToml(root) {
   // ---- TOML. A table is a Map, an array an Array, a string a string, a whole number a bigint, and all else an Other.
 
   const MOST_NESTED = 80;
+  /** @type {Record<string, string>} */
   const ESCAPES = { b: "\b", e: "\x1b", f: "\f", n: "\n", r: "\r", t: "\t", '"': '"', "\\": "\\" };
+  /** @type {Record<string, number>} */
   const HEX_DIGITS = { x: 2, u: 4, U: 8 };
   const SPACE = /[ \t]*/y;
   const LINE_END = /\r?\n/y;
@@ -16,7 +19,8 @@ function daaToml(root) {
   const BLANK_LINES = /(?:[ \t]|\r?\n)*/y;
   const BARE_KEY = /[A-Za-z0-9_-]+/y;
   const WORD = /[A-Za-z0-9_+.:-]+(?: (?=[0-9])[A-Za-z0-9_+.:-]+)?/y;
-  const PLAIN = { false: /[^\x00-\x08\x0a-\x1f\x7f]/uy, true: /[^\x00-\x08\x0b-\x1f\x7f]/uy };
+  const PLAIN = /[^\x00-\x08\x0a-\x1f\x7f]/uy;
+  const PLAIN_LINES = /[^\x00-\x08\x0b-\x1f\x7f]/uy; // with line feeds
   const DECIMAL = /^[+-]?(?:0|[1-9](?:_?[0-9])*)$/;
   const PREFIXED = /^(?:0x[0-9A-Fa-f](?:_?[0-9A-Fa-f])*|0o[0-7](?:_?[0-7])*|0b[01](?:_?[01])*)$/;
   const FLOAT = /^[+-]?(?:0|[1-9](?:_?[0-9])*)(?:\.[0-9](?:_?[0-9])*)?(?:[eE][+-]?[0-9](?:_?[0-9])*)?$/;
@@ -27,19 +31,23 @@ function daaToml(root) {
 
   /** A value that is no whole number, table, array or string. */
   class Other {
+    /** @param {string} text */
     constructor(text) { this.text = text; }
   }
 
   /** A table, on which line each key stands, and how the table came to be: by a header, on the way to one, by a dotted key, as a value. */
   class Table extends Map {
-    /** @type {Map<string, number>} */ lines;
-    /** @type {any} */ origin;
+    /** @type {Map<string, number>} */ lines = new Map();
 
+    /** @param {"header" | "implicit" | "dotted" | "value"} origin
+     *  @param {number} line */
     constructor(origin, line) {
       super();
-      Object.assign(this, { origin, line, lines: new Map() });
+      this.origin = origin;
+      this.line = line;
     }
 
+    /** @type {(key: string, value: any, line: number) => any} */
     put(key, value, line) {
       this.set(key, value);
       this.lines.set(key, line);
@@ -51,6 +59,7 @@ function daaToml(root) {
   class TableList extends Array {}
 
   class Reader {
+    /** @param {string} text */
     constructor(text) {
       this.text = text;
       this.at = 0;
@@ -65,9 +74,11 @@ function daaToml(root) {
       return lines + more;
     }
 
+    /** @type {(why: string) => never} */
     fail(why) { throw new daa.Refused(2, { why: `line ${this.line()}: ${why}`, line: this.line() }); }
 
-    /** What has the form and comes next; goes past it. */
+    /** What has the form and comes next; goes past it.
+     *  @type {(form: RegExp) => string} */
     skip(form) {
       form.lastIndex = this.at;
       const found = form.exec(this.text);
@@ -76,14 +87,17 @@ function daaToml(root) {
       return found[0];
     }
 
+    /** @type {(front: string) => boolean} */
     nextIs(front) { return this.text.startsWith(front, this.at); }
 
+    /** @type {(front: string) => boolean} */
     take(front) {
       if (!this.nextIs(front)) return false;
       this.at += front.length;
       return true;
     }
 
+    /** @type {(front: string) => void} */
     need(front) { if (!this.take(front)) this.fail(`${front} is wanted`); }
 
     ends() { return this.at >= this.text.length; }
@@ -108,14 +122,15 @@ function daaToml(root) {
       return top;
     }
 
+    /** @type {(top: Table, closing: string) => Table} */
     header(top, closing) {
       const line = this.line();
       this.skip(SPACE);
       const path = this.key();
-      const last = path.pop();
+      const last = path[path.length - 1];
       this.need(closing);
       let table = top;
-      for (const part of path) {
+      for (const part of path.slice(0, -1)) {
         table = table.has(part) ? table.get(part) : table.put(part, new Table("implicit", line), line);
         if (table instanceof TableList) table = table[table.length - 1];
         if (!(table instanceof Table) || table.origin === "value") this.fail(`${part} is no table that may be added to`);
@@ -123,6 +138,7 @@ function daaToml(root) {
       return closing === "]]" ? this.oneMore(table, last, line) : this.headed(table, last, line);
     }
 
+    /** @type {(table: Table, last: string, line: number) => Table} */
     oneMore(table, last, line) {
       const list = table.has(last) ? table.get(last) : table.put(last, new TableList(), line);
       if (!(list instanceof TableList)) this.fail(`${last} is there already`);
@@ -130,6 +146,7 @@ function daaToml(root) {
       return list[list.length - 1];
     }
 
+    /** @type {(table: Table, last: string, line: number) => Table} */
     headed(table, last, line) {
       const made = table.has(last) ? table.get(last) : table.put(last, new Table("implicit", line), line);
       if (!(made instanceof Table) || made.origin !== "implicit") this.fail(`${last} is there already`);
@@ -137,14 +154,15 @@ function daaToml(root) {
       return made;
     }
 
+    /** @type {(table: Table, depth: number) => void} */
     pair(table, depth) {
       const line = this.line();
       const path = this.key();
-      const last = path.pop();
+      const last = path[path.length - 1];
       this.need("=");
       this.skip(SPACE);
       const value = this.value(depth);
-      for (const part of path) {
+      for (const part of path.slice(0, -1)) {
         table = table.has(part) ? table.get(part) : table.put(part, new Table("dotted", line), line);
         if (!(table instanceof Table) || !["dotted", "implicit"].includes(table.origin)) this.fail(`${part} is no table that may be added to`);
         table.origin = "dotted";
@@ -153,6 +171,7 @@ function daaToml(root) {
       table.put(last, value, line);
     }
 
+    /** @type {() => string[]} */
     key() {
       const parts = [];
       for (;;) {
@@ -165,6 +184,7 @@ function daaToml(root) {
       }
     }
 
+    /** @type {(depth: number) => any} */
     value(depth) {
       if (this.nextIs("[") || this.nextIs("{")) {
         if (depth === MOST_NESTED) this.fail(`arrays and tables nested more than ${MOST_NESTED} deep`);
@@ -176,6 +196,7 @@ function daaToml(root) {
       return this.scalar(this.skip(WORD) || this.fail("no value where one is wanted"));
     }
 
+    /** @type {(depth: number) => any[]} */
     array(depth) {
       const found = [];
       this.skip(BLANK);
@@ -186,6 +207,7 @@ function daaToml(root) {
       return found;
     }
 
+    /** @type {(depth: number) => Table} */
     inlineTable(depth) {
       const found = new Table("implicit", this.line());
       this.need("{");
@@ -198,12 +220,14 @@ function daaToml(root) {
       return found;
     }
 
+    /** @type {(closing: string) => void} */
     afterElement(closing) {
       this.skip(BLANK);
       if (this.take(",")) this.skip(BLANK);
       else if (!this.nextIs(closing)) this.need(closing);
     }
 
+    /** @type {(delimiter: string, how?: { multi?: boolean }) => string} */
     stringBody(delimiter, { multi = false } = {}) {
       this.at += multi ? 3 : 1;
       if (multi) this.skip(LINE_END);
@@ -215,11 +239,12 @@ function daaToml(root) {
           pieces += this.skip(delimiter === '"' ? /"{1,5}/y : /'{1,5}/y);
         } else if (delimiter === '"' && this.take("\\")) pieces += this.escape(multi);
         else if (multi && this.nextIs("\r\n")) pieces += this.skip(LINE_END);
-        else pieces += this.skip(PLAIN[multi]) || this.fail("a string that does not end, or holds a control character");
+        else pieces += this.skip((multi ? PLAIN_LINES : PLAIN)) || this.fail("a string that does not end, or holds a control character");
       }
     }
 
-    /** The delimiters of a string that still belong to it, where it ends here, or null. */
+    /** The delimiters of a string that still belong to it, where it ends here, or null.
+     *  @type {(delimiter: string, multi: boolean) => string | null} */
     closing(delimiter, multi) {
       if (!multi) {
         this.at += 1;
@@ -235,6 +260,7 @@ function daaToml(root) {
       return delimiter.repeat(count - 3);
     }
 
+    /** @type {(multi: boolean) => string} */
     escape(multi) {
       if (multi) {
         const before = this.at;
@@ -255,6 +281,7 @@ function daaToml(root) {
       return String.fromCodePoint(code);
     }
 
+    /** @type {(word: string) => Other | bigint} */
     scalar(word) {
       if (word === "true" || word === "false" || /^[+-]?(?:inf|nan)$/.test(word)) return new Other(word);
       if (/^[0-9]+[-:]/.test(word)) return this.dateOrTime(word);
@@ -263,6 +290,7 @@ function daaToml(root) {
       return new Other(word);
     }
 
+    /** @type {(word: string) => bigint} */
     wholeNumber(word) {
       const plain = word.replaceAll("_", "");
       const number = plain[0] === "-" ? -BigInt(plain.slice(1)) : BigInt(plain.replace("+", ""));
@@ -270,6 +298,7 @@ function daaToml(root) {
       return number;
     }
 
+    /** @type {(word: string) => Other} */
     dateOrTime(word) {
       if (ONLY_TIME.test(word)) return new Other(word);
       const found = DATE_TIME.exec(word);
@@ -282,13 +311,15 @@ function daaToml(root) {
     }
   }
 
-  /** Closes a table that is a value, and those in it: nothing may be added. */
+  /** Closes a table that is a value, and those in it: nothing may be added.
+   *  @type {(table: Table) => void} */
   function seal(table) {
     for (const inner of table.values()) if (inner instanceof Table && inner.origin !== "value") seal(inner);
     table.origin = "value";
   }
 
-  /** The document of a text of bytes. Throws Refused with code 2. */
+  /** The document of a text of bytes. Throws Refused with code 2.
+   *  @type {(bytes: Uint8Array) => Table} */
   function readToml(bytes) {
     let text;
     try {
@@ -301,6 +332,7 @@ function daaToml(root) {
 
   // ---- What a document must say: the least and the greatest of each number, and its unit
 
+  /** @type {Record<string, any>} */
   const RANGES = {
     resolve: [1, 4, "a level"], turn_rate: [1, 30, "degree per second"], track_step: [1, 90, "degree, a divisor of 360"],
     last_times: [0, 1, "0 or 1"],
@@ -314,10 +346,13 @@ function daaToml(root) {
   const MODELS = ["tcpa", "tau", "tep"];
   const MOST_VALUES = 512;
   const GRIDS = ["gs", "vs", "alt"];
+  /** @type {(value: any) => boolean} */
   const isNumber = (value) => typeof value === "bigint";
+  /** @type {(key: string) => boolean} */
   const isOptional = (key) => daa.OPTIONAL.includes(key);
 
-  /** A value of a document, for a sentence. */
+  /** A value of a document, for a sentence.
+   *  @type {(value: any) => string} */
   function shown(value) {
     if (value instanceof Other) return value.text;
     if (value instanceof Table) return "a table";
@@ -325,10 +360,13 @@ function daaToml(root) {
     return isNumber(value) ? String(value) : `'${value.length <= 40 ? value : value.slice(0, 40) + ".."}'`;
   }
 
-  /** All that is wrong with a document: each fault's code, sentence and line; the least code first. */
+  /** All that is wrong with a document: each fault's code, sentence and line; the least code first.
+   *  @type {(document: Table) => TomlFault[]} */
   function faultsOf(document) {
+    /** @type {TomlFault[]} */
     const faults = [];
-    const add = (code, why, line) => faults.push({ code, why, line });
+    /** @type {AddFault} */
+    const add = (code, why, line) => { faults.push({ code, why, line }); };
     keyFaults(add, "", document, [...daa.TOP, ...GRIDS, "level", "recovery"], (key) => key === "recovery" || isOptional(key));
     numberFaults(add, "", document, daa.TOP, RANGES);
     for (const name of [...GRIDS, "recovery"]) tableFaults(add, document, name);
@@ -337,6 +375,7 @@ function daaToml(root) {
     return faults.sort((a, b) => a.code - b.code);
   }
 
+  /** @type {(add: AddFault, where: string, table: Table, keys: string[], mayBeLeftOut: (key: string) => boolean) => void} */
   function keyFaults(add, where, table, keys, mayBeLeftOut) {
     for (const key of table.keys()) {
       if (!keys.includes(key)) add(3, `${where}${key} is no key; known are ${keys.join(", ")}`, table.lines.get(key));
@@ -344,6 +383,7 @@ function daaToml(root) {
     for (const key of keys) if (!table.has(key) && !mayBeLeftOut(key)) add(4, `${where}${key} is missing`, table.line);
   }
 
+  /** @type {(add: AddFault, where: string, table: Table, keys: string[], ranges: Record<string, any>) => void} */
   function numberFaults(add, where, table, keys, ranges) {
     for (const key of keys) {
       if (!table.has(key)) continue;
@@ -355,6 +395,7 @@ function daaToml(root) {
     }
   }
 
+  /** @type {(add: AddFault, document: Table, name: string) => void} */
   function tableFaults(add, document, name) {
     if (!document.has(name)) return;
     const table = document.get(name);
@@ -367,7 +408,8 @@ function daaToml(root) {
     numberFaults(add, `${name}.`, table, keys, RANGES[name]);
   }
 
-  /** What is wrong with the lists of candidates, where each number is in its range. */
+  /** What is wrong with the lists of candidates, where each number is in its range.
+   *  @type {(add: AddFault, document: Table) => void} */
   function stepFaults(add, document) {
     const step = document.get("track_step");
     if (isNumber(step) && step >= 1n && step <= 90n && 360n % step) {
@@ -383,6 +425,7 @@ function daaToml(root) {
     }
   }
 
+  /** @type {(add: AddFault, document: Table) => void} */
   function levelFaults(add, document) {
     if (!document.has("level")) return;
     const levels = document.get("level");
@@ -399,6 +442,7 @@ function daaToml(root) {
     }
   }
 
+  /** @type {(add: AddFault, level: any, number: number, line: number | undefined) => void} */
   function oneLevelFaults(add, level, number, line) {
     if (!(level instanceof Table)) {
       add(5, `level ${number} is ${shown(level)} and no table`, line);
@@ -410,14 +454,18 @@ function daaToml(root) {
     if (chosen.length > 1) add(6, `level ${number}, ${chosen.join(" and ")} are 1, and at most one may be`, level.lines.get(chosen[1]));
   }
 
-  /** The numbers of a document without the faults 3 to 5, under the names that core.js has for the engine's struct. */
+  /** The numbers of a document without the faults 3 to 5, under the names that core.js has for the engine's struct.
+   *  @type {(document: Table) => Numbers} */
   function numbersOf(document) {
+    /** @type {Numbers} */
     const numbers = {};
+    /** @type {(where: string, table: Table, keys: string[]) => void} */
     const put = (where, table, keys) => {
       for (const key of keys) numbers[where + key] = table.get(key) ?? 0n;
     };
     put("", document, daa.TOP);
     for (const name of GRIDS) put(`${name}.`, document.get(name), daa.GRID);
+    /** @type {Table[]} */
     const levels = document.get("level");
     levels.forEach((level, l) => put(`level${l + 1}.`, level, daa.LEVEL));
     numbers.count = BigInt(levels.length);

@@ -4,12 +4,15 @@
 "use strict";
 (function () {
   const { ui } = daa;
-  const { Moments, KINDS, SIDES, closest, flown: moved, escape, shownWords, numberOf } = daa;
+  const { Moments, KINDS, SIDES, must, closest, flown: moved, escape, shownWords, numberOf } = daa;
   const { $, state, setText, setHtml, saidOf, changed, shownAt } = ui;
   const [BEFORE, AFTER] = [200, 1000]; // moments that are taken over before and after this one
   const NAMES = { track: "track", gs: "ground speed", vs: "vertical speed", alt: "altitude" };
+  /** @type {("question" | "meaning" | "followed")[]} */
+  const PARTS = ["question", "meaning", "followed"];
 
-  /** The answers that may be flown, in words by what they are; first the present flight. */
+  /** The answers that may be flown, in words by what they are; first the present flight.
+   *  @type {(said: Said) => Map<string, string>} */
   function answersIn(said) {
     const found = new Map([["keep", "the present flight"]]);
     for (const kind of KINDS) {
@@ -23,12 +26,14 @@
     return found;
   }
 
-  /** What a lesson follows, as answers are called. */
+  /** What a lesson follows, as answers are called.
+   *  @type {(said: Said) => string} */
   function followed(said) {
     const { lesson } = state;
     if (!lesson || state.current.time !== lesson.at) return "";
     const [kind, side] = lesson.follow;
-    const to = side === "recover" ? said.recover[kind]?.value : said.resolve[kind][side];
+    const back = said.recover[kind];
+    const to = side !== "recover" ? said.resolve[kind][side] : back && back !== "none" ? back.value : "none";
     return typeof to === "number" ? `${kind} ${to}` : "";
   }
 
@@ -56,7 +61,7 @@
 
   /** The recording as it was, at the moment from which another flight was flown. */
   function goBack() {
-    const { recorded, from } = state.flown;
+    const { recorded, from } = must(state.flown); // its button is shown with it
     const { moments, name, told, alone, silence, lesson, edits, recording } = recorded;
     ui.begin(moments, name, { told, alone, silence, lesson, edits, recording });
     ui.go(moments.indexAt(from));
@@ -64,8 +69,10 @@
 
   // ---- what came of it
 
-  /** How near the aircraft come from a time on, and the greatest alert level; `decided` tells whether all of it is known. */
+  /** How near the aircraft come from a time on, and the greatest alert level; `decided` tells whether all of it is known.
+   *  @type {(moments: any, notes: any, from: number, upto: number) => Outcome} */
   function outcomeOf(moments, notes, from, upto) {
+    /** @type {Outcome["least"]} */
     let least = null;
     let [level, alerting, isDecided] = [0, 0, true];
     for (let index = moments.indexAt(from); index < moments.length && moments.time(index) <= upto; index++) {
@@ -85,11 +92,13 @@
     return { least, level, alerting, isDecided };
   }
 
+  /** @type {{ key: string, outcomes: Outcome[] }} */
   let told = { key: "", outcomes: [] };
 
   /** What was recorded and what was flown, over the time that both have. */
   function outcomes() {
-    const { flown: { recorded, from }, moments, surveys: [survey] } = state;
+    const { moments, surveys: [survey] } = state;
+    const { recorded, from } = must(state.flown); // else none are asked for
     const upto = Math.min(moments.time(moments.length - 1), recorded.moments.time(recorded.moments.length - 1));
     const key = [from, upto, survey.decided, survey.job].join(" ");
     if (told.key !== key) {
@@ -98,7 +107,9 @@
     return told.outcomes;
   }
 
+  /** @type {(name: string, outcome: Outcome) => string} */
   function rowHtml(name, { least, level, alerting, isDecided }) {
+    /** @type {(least: NonNullable<Outcome["least"]>) => (string | number)[]} */
     const nearOf = ({ miles, above, time, id }) => [miles.toFixed(2), numberOf(Math.round(above)), Math.round(time), escape(id)];
     const cells = [...(least ? nearOf(least) : ["–", "–", "–", "–"]), ...(isDecided ? [level, alerting] : ["…", "…"])];
     return `<tr><th scope="row">${name}</th>${cells.map((cell) => `<td>${cell}</td>`).join("")}</tr>`;
@@ -109,7 +120,7 @@
     $("unfly").hidden = $("outcome").hidden = !flown;
     setText($("flown"), flown ? `Flown: ${flown.words}.` : "");
     $("lesson").hidden = !lesson;
-    if (lesson) for (const part of ["question", "meaning", "followed"]) setText($(`lesson-${part}`), lesson[part]);
+    if (lesson) for (const part of PARTS) setText($(`lesson-${part}`), lesson[part]);
     if (!$("whatif").open) return;
     const said = saidOf(state.views[0]);
     const answers = said ? answersIn(said) : new Map();
@@ -127,7 +138,8 @@
   $("unfly").addEventListener("click", goBack);
   $("whatif").addEventListener("toggle", changed);
 
-  /** Shows a lesson, at the moment that it asks of. */
+  /** Shows a lesson, at the moment that it asks of.
+   *  @type {(name: string) => void} */
   function takeLesson(name) {
     const lesson = daa.lessons[name];
     ui.configure(0, daa.examples.configs[lesson.config], lesson.config);

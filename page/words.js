@@ -4,29 +4,36 @@
 (function (root) {
   const { n, text, explained, widthOf, fitted, cut, paint, edge, diamond, TAPE_KINDS, angleOf, shownValue, shownWords, vectorSeconds } = daa.art;
 
+  /** @type {(to: Answer) => string} */
   const styleOf = (to) => (typeof to === "number" ? "open" : to === "none" ? "none" : "small");
 
+  /** @type {(view: View, model: Model) => string} */
   function answers(view, model) {
-    if (!model.said) return "";
-    return answersOfTrack(view, model) + TAPE_KINDS.map((kind) => answersOfTape(view, model, kind)).join("");
+    const { said } = model;
+    if (!said) return "";
+    return answersOfTrack(view, said) + TAPE_KINDS.map((/** @type {TapeKind} */ kind) => answersOfTape(view, said, kind)).join("");
   }
 
-  /** A line of answers: what it is of is told by data, so that it can be read back. */
+  /** A line of answers: what it is of is told by data, so that it can be read back.
+   *  @type {(g: Geometry, x: number, y: number, kind: Kind, what: string, words: string, style: string, anchor?: string, room?: number) => string} */
   function answerLine(g, x, y, kind, what, words, style, anchor = "", room = g.width) {
     const size = n(fitted(words, g.font, room));
     const drawn = text(x, y, words, `class="${style} ${anchor}" font-size="${size}" data-kind="${kind}" data-what="${what}"`);
     return explained({ recover: "recovery", last: "last" }[what] ?? { open: "open", none: "none" }[style] ?? "keep", drawn);
   }
 
-  function answersOfTrack(view, { said }) {
+  /** @type {(view: View, said: Said) => string} */
+  function answersOfTrack(view, said) {
     const { g } = view;
     const { lower, upper } = said.resolve.track;
+    /** @type {(to: Answer) => string} */
     const shown = (to) => (typeof to === "number" ? angleOf(to) : to);
     const [x, y, gap] = [g.centre.x, g.answers + g.line, g.font * 0.8];
     let out = answerLine(g, x - gap, y, "track", "lower", `◄ left ${shown(lower)}`, styleOf(lower), "end")
       + answerLine(g, x + gap, y, "track", "upper", `► right ${shown(upper)}`, styleOf(upper));
     const more = [];
     const back = said.recover.track;
+    /** @type {(back: { value: number, after: number }) => string} */
     const turnTo = ({ value, after }) => `◆ turn to ${angleOf(value)}, clear after ${after} s`;
     if (back) more.push(["recover", back === "none" ? "◆ no recovery" : turnTo(back), "recover"]);
     const last = said.last.track;
@@ -36,10 +43,12 @@
     return out;
   }
 
-  function answersOfTape(view, { said }, kind) {
+  /** @type {(view: View, said: Said, kind: TapeKind) => string} */
+  function answersOfTape(view, said, kind) {
     const { g } = view;
     const t = g.tapes[kind];
     const { lower, upper } = said.resolve[kind];
+    /** @type {(to: Answer) => string} */
     const shown = (to) => (typeof to === "number" ? shownWords(kind, to) : to);
     const lines = [["upper", `▲ ${shown(upper)}`, styleOf(upper)], ["lower", `▼ ${shown(lower)}`, styleOf(lower)]];
     const back = said.recover[kind];
@@ -48,12 +57,14 @@
     if (last === "none") lines.push(["last", "too late", "none"]);
     else if (last !== undefined) lines.push(["last", `may wait ${last} s`, "last"]);
     const top = g.answers + (g.stacked ? g.line * (g.rows - 1) : 0);
+    /** @type {(line: string[], row: number) => string} */
     const line = ([what, words, style], row) => answerLine(g, t.left + 6, top + g.line * (row + 1), kind, what, words, style, "", t.width - 12);
     return lines.map(line).join("");
   }
 
   // ---- head and legend
 
+  /** @type {(view: View, model: Model) => string} */
   function head(view, model) {
     const { g } = view;
     const size = `font-size="${g.font}"`;
@@ -70,7 +81,8 @@
     return out + (model.fault ? noAnswer(g, model.fault) : "");
   }
 
-  /** Why there is no answer, in the upper half of the compass. */
+  /** Why there is no answer, in the upper half of the compass.
+   *  @type {(g: Geometry, fault: string) => string} */
   function noAnswer(g, fault) {
     const rows = [""];
     for (const word of fault.split(" ")) {
@@ -78,32 +90,36 @@
       rows[rows.length - 1] += `${word} `;
     }
     const y = g.centre.y - g.radius * 0.42;
+    /** @type {(row: string, i: number) => string} */
     const line = (row, i) => text(g.centre.x, y + g.line * (i + 1.2), row.trim(), `class="mid halo" font-size="${g.font}"`);
     return text(g.centre.x, y, "no answer", `class="none mid halo" font-size="${g.font * 1.6}"`) + rows.map(line).join("");
   }
 
-  /** The legend's rows, each a list of items with their widths. */
+  /** The legend's rows, each a list of items with their widths.
+   *  @type {(config: Configuration, font: number, width: number) => LegendItem[][]} */
   function legendOf(config, font, width) {
-    /** @type {{ level?: number, open?: boolean, recover?: boolean, words: string, means?: string, wide?: number }[]} */
+    /** @type {Omit<LegendItem, "wide">[]} */
     const items = [{ level: 0, words: "clear" }];
     config.levels.forEach((_, l) => items.push(l + 1 === config.resolve
       ? { level: l + 1, words: `level ${l + 1}, corrective`, means: "corrective" } : { level: l + 1, words: `level ${l + 1}` }));
     items.push({ open: true, words: "nearest open", means: "open" });
     if (config.recovery) items.push({ recover: true, words: "recovery", means: "recovery" });
+    /** @type {LegendItem[][]} */
     const rows = [[]];
     let left = 0;
     for (const item of items) {
-      item.wide = 36 + widthOf(item.words, font - 1);
-      if (left + item.wide > width - 16 && rows[rows.length - 1].length) {
+      const wide = 36 + widthOf(item.words, font - 1);
+      if (left + wide > width - 16 && rows[rows.length - 1].length) {
         rows.push([]);
         left = 0;
       }
-      rows[rows.length - 1].push(item);
-      left += item.wide;
+      rows[rows.length - 1].push({ ...item, wide });
+      left += wide;
     }
     return rows;
   }
 
+  /** @type {(view: View, model: Model) => string} */
   function legend(view, { config }) {
     const { g } = view;
     let out = "";

@@ -1,4 +1,4 @@
-"""Types: the page's scripts are checked by TypeScript, by their JSDoc and by typed/page.d.ts."""
+"""Types: the page's scripts are checked by TypeScript with its strict rules, by their JSDoc and by typed/page.d.ts."""
 import json
 import os
 import re
@@ -10,7 +10,7 @@ import counting
 from shared import HERE, Page
 from test_files import MADE, files
 
-OPTIONS = {"allowJs": True, "checkJs": False, "noEmit": True, "target": "es2022", "lib": ["es2022", "dom", "dom.iterable"], "types": [], "moduleDetection": "legacy"}
+OPTIONS = {"allowJs": True, "checkJs": False, "noEmit": True, "strict": True, "target": "es2022", "lib": ["es2022", "dom", "dom.iterable"], "types": [], "moduleDetection": "legacy"}
 
 
 def scripts():
