@@ -1,4 +1,6 @@
 """Reads a table, one report of an aircraft a row."""
+import functools
+import itertools
 import math
 import operator
 import re
@@ -29,6 +31,9 @@ class Row(NamedTuple):
     vs: float
     track: float
     lack: str = ""
+
+
+ROW = functools.partial(tuple.__new__, Row)  # a report of a whole tuple, in less time than by names
 
 
 class BadRow(Exception):
@@ -78,10 +83,6 @@ class Table:
 
     def row(self, line):
         """The report of a row; None for one that is told otherwise, of an aircraft on the ground."""
-        return self.usual and self.usual.row(line) or self.any_row(line)
-
-    def any_row(self, line):
-        """The same, whatever stands in it."""
         cells = cells_of(line, self.header.marks)
         if len(cells) != self.columns:
             self.check_length(cells, line)
@@ -173,16 +174,16 @@ class Table:
 
 
 class UsualRows:
-    """Reads rows of a table as most are, with plain numbers, in a quarter of the time; every other row is left to the table."""
+    """Reads rows of a table as most are, with plain numbers, many at a time: column by column, in a tenth of the time; every other row is
+    left to the table."""
 
     def __init__(self, table):
         self.table, at = table, table.at
-        self.mark, self.other = (";", '"') if table.header.marks == ";" else (",", ";")
+        self.mark, other = (";", '"') if table.header.marks == ";" else (",", ";")
+        self.unusual = {'"', other, "#"}
         self.name, self.time, self.label, self.ground = at["name"], at["time"], at.get("label"), at.get("ground")
         columns = (*table.header.form("place"), table.header.altitude, "trk", "gs", "vs")
-        self.numbers = operator.itemgetter(*(at[column] for column in columns), self.time)
-        self.worths = [table.worth[column] for column in columns]
-        self.is_scaled = any(worth != 1 for worth in self.worths)
+        self.numbers = [(at[column], table.worth[column]) for column in columns]
         self.times, self.on_earth, self.columns = table.times, table.on_earth, table.columns
 
     @staticmethod
@@ -191,30 +192,38 @@ class UsualRows:
         return (table.is_polar and table.header.form("place") != ("position",) and "date" not in table.at and {"name", "vs"} <= table.at.keys()
                 and mark_of(table.header.line, table.header.marks) is not None)
 
-    def row(self, line):
-        """The report of a row, or None where it may be another one than it looks."""
-        cells = line.split(self.mark)
-        if len(cells) != self.columns or '"' in line or self.other in line:
+    def rows(self, lines):
+        """The reports of lines, or None where one may be another one than it looks."""
+        text = "\n".join(lines)
+        cells = [line.split(self.mark) for line in lines]
+        if any(mark in text for mark in self.unusual) or any(len(row) != self.columns for row in cells):
+            return None
+        cells = [*zip(*cells)]
+        names = [*map(str.strip, cells[self.name])]
+        if not all(names) or self.ground is not None and any(cell.strip().lower() in ON_GROUND for cell in cells[self.ground]):
             return None
         try:
-            north, east, alt, track, speed, vs, number = map(float, self.numbers(cells))
+            north, east, alt, track, speed, vs = (self.column(cells[at], worth) for at, worth in self.numbers)
+            times = self.times.scaled_all([*map(float, cells[self.time])], cells[self.time])
         except ValueError:
             return None
-        if self.is_scaled:
-            north, east, alt, track, speed, vs = map(operator.mul, (north, east, alt, track, speed, vs), self.worths)
-        time, name = self.times.scaled(number, cells[self.time]), cells[self.name].strip()
-        if time is None or not name or not math.hypot(north, east, alt, track, speed, vs, time) < GREATEST:
+        if times is None or not math.hypot(*north, *east, *alt, *track, *speed, *vs, *times) < GREATEST:
             return None
-        if self.on_earth and not (-MOST_LATITUDE <= north <= MOST_LATITUDE and (north or east)):
+        places = [*zip(north, east)]
+        if self.on_earth and (min(north) < -MOST_LATITUDE or max(north) > MOST_LATITUDE or (0, 0) in places):
             return None
-        if self.ground is not None and cells[self.ground].strip().lower() in ON_GROUND:
-            return None
-        if self.label is not None and cells[self.label].strip():
-            self.table.labels[name] = cells[self.label].strip()
+        if self.label is not None:
+            self.table.labels.update((name, label) for name, label in zip(names, map(str.strip, cells[self.label])) if label)
         if self.table.first_name is None:
-            self.table.first_name = name
-        angle = math.radians(track)
-        return Row._make((name, time, (north, east), alt, speed * math.sin(angle), speed * math.cos(angle), vs, track, ""))
+            self.table.first_name = names[0]
+        angles = [*map(math.radians, track)]
+        speeds_east, speeds_north = map(operator.mul, speed, map(math.sin, angles)), map(operator.mul, speed, map(math.cos, angles))
+        return [*map(ROW, zip(names, times, places, alt, speeds_east, speeds_north, vs, track, itertools.repeat("")))]
+
+    @staticmethod
+    def column(cells, worth):
+        """The numbers of a column."""
+        return [*map(float, cells)] if worth == 1 else [float(cell) * worth for cell in cells]
 
 
 def number_otherwise(column, cell):

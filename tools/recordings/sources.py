@@ -13,6 +13,7 @@ from .headers import COLUMNS
 from .rows import BadRow, RepeatedHeader, Table
 
 MOST_SHOWN = 60  # characters of a line in a message
+AT_ONCE = 256  # lines that are read together
 
 
 class Wishes(NamedTuple):
@@ -69,14 +70,14 @@ class Source:
             return self.begin(line, stripped)
         return self.rows(line)
 
-    def usual_row(self, line):
-        """The report of a line of a table that is as most are: what take gives of it, sooner. None of any other line."""
-        usual = self.usual
-        row = usual.row(line) if usual and "#" not in line else None
-        if row:
-            self.number += 1
-            self.count += 1
-        return row
+    def take_all(self, lines):
+        """The reports of further lines: what take gives of each, sooner where they are lines of a table that are as most are."""
+        found = self.usual.rows(lines) if self.usual and lines else None
+        if found is not None:
+            self.number += len(found)
+            self.count += len(found)
+            return found
+        return self.take(lines[0]) if len(lines) == 1 else [row for line in lines for row in self.take_all([line])]
 
     def begin(self, line, stripped):
         """Finds the form by the first lines."""
@@ -223,14 +224,9 @@ def read_file(path, wishes, shift=0, owner=None):
     """The rows of a file, each later by a shift in seconds, and its source."""
     source = Source(path, wishes, owner)
     lines, rows = lines_of_text(path), []
-    for number, line in enumerate(lines):
-        row = source.usual_row(line)
-        if row:
-            rows.append(row)
-        else:
-            rows += source.take(line)
-        if not number & 0xFFF:
-            progress.show("read", number, len(lines))
+    for begin in range(0, len(lines), AT_ONCE):
+        rows += source.take_all(lines[begin:begin + AT_ONCE])
+        progress.show("read", begin, len(lines))
     rows += source.end()
     return source, [row._replace(time=row.time + shift) for row in rows] if shift else rows
 

@@ -113,6 +113,14 @@ class Times:
             self.is_utc = True
         return found
 
+    def scaled_all(self, numbers, cells):
+        """The seconds of some numbers of which none lacks digits, or None where one may."""
+        if "e" in (text := "".join(cells)) or "E" in text or self.scaled(numbers[0], cells[0]) is None:
+            return None
+        found = [number * self.scale for number in numbers]
+        self.is_utc = self.is_utc or max(found) >= LEAST_UTC
+        return found
+
     def past_midnight(self, seconds, name):
         """A time of day on the day that is nearest to the aircraft's last time, or at first to the recording's first time."""
         if self.first is None:
