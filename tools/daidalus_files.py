@@ -540,16 +540,13 @@ def own_line(own):
     return "own {} {} {} {} {} {}".format(*own)
 
 
-TRAFFIC_LINE = {1: "traffic {} {} {} {} {} {} {}", 2: "traffic {} {} {} {} {} {} {} {}"}
-
-
 def traffic_line(traffic, form):
-    return TRAFFIC_LINE[form].format(*traffic)
+    return "traffic %s %d %d %d %d %d %d %d" % traffic if form == 2 else "traffic %s %d %d %d %d %d %d" % traffic[:7]
 
 
 def moment_lines(time, own, traffic, form, comments=()):
     """The lines of a moment in format 1 or 2, with comments after its first one."""
-    return [f"moment {time}", *comments, own_line(own), *(traffic_line(aircraft, form) for aircraft in traffic), "end"]
+    return [f"moment {time}", *comments, own_line(own), *[traffic_line(aircraft, form) for aircraft in traffic], "end"]
 
 
 MOST_CAUSE, MOST_NAME = 200, 50  # characters of a cause and of a name in a comment, so that its line is never long

@@ -1,7 +1,9 @@
 """Makes moments of reports: each report of the ownship is one, at its whole second, with the latest report of every other aircraft until
 then. Reports are taken in the order of their times, one by one, so that a recording can be read while it is written."""
 import bisect
+import functools
 import math
+import operator
 import re
 
 from daidalus_files import (AGE, ALT, FIELDS, GS, MOST_AIRCRAFT, VS, VX, Own, Traffic, X, fixed, lacks_line, origin_line)
@@ -10,14 +12,17 @@ from headings import velocity
 from .plane import closest, offset, on_ellipsoid, rotated
 
 LAST_SECOND = FIELDS["moment"][0].high
-MOST_PLACE, MOST_SPEED, MOST_CLIMB, MOST_AGE = X.high, VX.high, VS.high, AGE.high  # the least ones are their opposites
+LEAST_PLACE, MOST_PLACE, LEAST_SPEED, MOST_SPEED, LEAST_CLIMB, MOST_CLIMB = X.low, X.high, VX.low, VX.high, VS.low, VS.high
+LOWEST, HIGHEST, MOST_AGE = ALT.low, ALT.high, AGE.high
+TRAFFIC = functools.partial(tuple.__new__, Traffic)  # an aircraft of a whole tuple, in less time than by its fields
 FARTHEST_OWN = 100  # NM: an ownship that is farther from where it began is put at 0 0
 ROUNDING = 1e-6  # s: what the rounding of a time's unit may cost
 CLOSE = 5  # NM: an aircraft that is nearer counts as if its closest approach were now
 NEAR = 40  # NM: an aircraft that is left out and was nearer, flown straight on, is told in its moment
 FORGOTTEN = 300  # s: after so long an old report says nothing any more about where an aircraft is
+MORE = f"more than {MOST_AIRCRAFT} aircraft"
 MOST_LACKS = 20  # aircraft that a moment lacks and that are named one by one
-MEASURED = 8  # aircraft of a moment, the nearest ones, of which it is measured what rounding costs
+MEASURED = 4  # aircraft of a moment, the nearest ones, of which it is measured what rounding costs
 # By how much of itself a distance in the plane may be off below this latitude: since a minute has 1843 to 1862 m and not always the 1852
 # of a mile, and with the distance's square since meridians run together.
 MOST_OFF, MOST_BENT, HIGH = 0.0055, 1e-6, 80
@@ -67,17 +72,24 @@ class Losses:
         self.place = self.height = self.speed = self.climb = self.closest = self.plane = 0.0
         self.count, self.is_in_part = 0, False
 
-    def note(self, east, north, seen_east, seen_north, v_east, v_north, seen_v_east, seen_v_north):
-        """Notes what the program sees of an aircraft's place and speed, from its ownship, against what was recorded."""
+    def note(self, place, speed, seen_place, seen_speed, height, climb):
+        """Notes what the program sees of an aircraft's place and speed, from its ownship, against what was recorded; and by how much height
+        and climb are off."""
         self.count += 1
-        self.place = max(self.place, math.hypot(seen_east - east, seen_north - north))
-        self.speed = max(self.speed, math.hypot(seen_v_east - v_east, seen_v_north - v_north))
-        off = closest(seen_east, seen_north, seen_v_east, seen_v_north) - closest(east, north, v_east, v_north)
-        self.closest = max(self.closest, off, -off)
-
-    def note_vertical(self, height, climb):
-        self.height = max(self.height, height, -height)
-        self.climb = max(self.climb, climb, -climb)
+        (east, north), (v_east, v_north), (seen_east, seen_north), (seen_v_east, seen_v_north) = place, speed, seen_place, seen_speed
+        off = math.hypot(seen_east - east, seen_north - north)
+        if off > self.place:
+            self.place = off
+        off = math.hypot(seen_v_east - v_east, seen_v_north - v_north)
+        if off > self.speed:
+            self.speed = off
+        off = abs(closest(seen_east, seen_north, seen_v_east, seen_v_north) - closest(east, north, v_east, v_north))
+        if off > self.closest:
+            self.closest = off
+        if height > self.height or -height > self.height:
+            self.height = abs(height)
+        if climb > self.climb or -climb > self.climb:
+            self.climb = abs(climb)
 
     def note_plane(self, far, own_place, place):
         """Notes how far a distance in the plane is off, unless it can't be the greatest."""
@@ -91,17 +103,13 @@ class Losses:
                    f"vertical speed {self.climb:.1f} ft/min, distance at the closest approach {self.closest:.4f} NM")
 
 
-def by_distance(far, row, way, own_row):
-    """How much an aircraft matters: the nearer, the more."""
-    return far
-
-
-def by_approach(far, row, way, own_row):
+def by_approach(there, own_row):
     """How much an aircraft matters: the sooner its closest approach the more, and then the nearer. One that is close counts as if that were
     now, and one whose distance grows as if it never came."""
+    far, row, way_east, way_north, *_ = there
     hours = (own_row.time - row.time) / 3600
     east, north = row.east - own_row.east, row.north - own_row.north
-    closing = -((way[0] + row.east * hours) * east + (way[1] + row.north * hours) * north)
+    closing = -((way_east + row.east * hours) * east + (way_north + row.north * hours) * north)
     approach = 0 if far < CLOSE else closing / (east * east + north * north) if closing > 0 else math.inf
     return approach, far
 
@@ -122,9 +130,10 @@ class OwnFrame:
 
 
 class Maker:
-    """Makes moments of the reports that it takes. `rank` orders aircraft where there are more than a moment may have: the least stay."""
+    """Makes moments of the reports that it takes. `rank` orders aircraft where there are more than a moment may have: the least stay, or,
+    without it, the nearest."""
 
-    def __init__(self, own_name, on_earth, oldest, names=(), rank=by_distance):
+    def __init__(self, own_name, on_earth, oldest, names=(), rank=None):
         self.own_name, self.on_earth, self.oldest, self.rank = own_name, on_earth, oldest, rank
         self.ids, self.losses, self.left_out = Identifiers(names), Losses(), {}
         self.latest, self.incomplete, self.used, self.unused = {}, {}, set(), {}
@@ -140,36 +149,37 @@ class Maker:
     def take(self, row):
         """Takes a report; the moment that is whole by it, or None. A moment waits for what is reported at the same time."""
         pending = self.pending
-        made = self.flush() if pending and row.time > pending.time else None
-        if row.name != self.own_name:
+        made = self.flush() if pending is not None and row[1] > pending[1] else None
+        if row[0] != self.own_name:
             self.take_traffic(row)
-        elif self.pending:
-            self.leave_out("moment", "in a second that has one already, or out of range")
-        else:
+        elif self.pending is None:
             self.pending = row
+        else:
+            self.leave_out("moment", "in a second that has one already, or out of range")
         return made
 
     def take_traffic(self, row):
-        name = row.name
-        held = self.latest.get(name)
+        name, time, latest = row[0], row[1], self.latest
         if row.lack:
             self.incomplete[name] = row
-        elif held and row.time < held.time:
-            self.unused[name] = self.unused.get(name, 0) + 1
-        else:
-            if held:
-                self.forget(name)
-                if (gap := row.time - held.time) > self.gaps.get(name, 0):
-                    self.gaps[name] = gap
-            self.latest[name] = row
-            if self.incomplete:
-                self.incomplete.pop(name, None)
+            return
+        if name in latest:
+            gap = time - latest[name][1]
+            if gap < 0:
+                self.unused[name] = self.unused.get(name, 0) + 1
+                return
+            if gap > self.gaps.get(name, 0):
+                self.gaps[name] = gap
+            self.forget(name)
+        latest[name] = row
+        if self.incomplete:
+            self.incomplete.pop(name, None)
 
     def forget(self, name):
         """The report of an aircraft is not the latest any more: notes whether no moment had it."""
-        try:
+        if name in self.used:
             self.used.remove(name)
-        except KeyError:
+        else:
             self.unused[name] = self.unused.get(name, 0) + 1
 
     def flush(self):
@@ -224,62 +234,60 @@ class Maker:
         self.far += is_far
         return OwnFrame(row, own, math.radians(track - whole))
 
-    def traffic_of(self, row, frame, east, north, is_measured):
+    def traffic_of(self, there, frame, is_measured):
         """An aircraft's numbers, or None where they are out of range; notes what is lost where that is measured."""
-        name, time, _, height, east_speed, north_speed, climb, _, _ = row
+        _, row, east, north, name, late, height, v_east, v_north, climb = there
         cosine, sine = frame.cos, frame.sin
-        late = frame.time - time
         age = int(late + ROUNDING) if late < MOST_AGE else MOST_AGE
         hours = (late - age) / 3600
-        east_then, north_then = east + east_speed * hours, north + north_speed * hours
+        east_then, north_then = east + v_east * hours, north + v_north * hours
         east_off, north_off = east_then * cosine - north_then * sine, east_then * sine + north_then * cosine
-        speed_x, speed_y = east_speed * cosine - north_speed * sine, east_speed * sine + north_speed * cosine
+        speed_x, speed_y = v_east * cosine - v_north * sine, v_east * sine + v_north * cosine
         height += climb * hours * 60
         x, y, alt, vx, vy, vs = round(1000 * east_off), round(1000 * north_off), round(height), round(10 * speed_x), round(10 * speed_y), round(climb)
         place_x, place_y = frame.x + x, frame.y + y
-        if not (abs(place_x) <= MOST_PLACE and abs(place_y) <= MOST_PLACE and ALT.low <= alt <= ALT.high and abs(vx) <= MOST_SPEED
-                and abs(vy) <= MOST_SPEED and abs(vs) <= MOST_CLIMB):
+        if not (LEAST_PLACE <= place_x <= MOST_PLACE and LEAST_PLACE <= place_y <= MOST_PLACE and LOWEST <= alt <= HIGHEST
+                and LEAST_SPEED <= vx <= MOST_SPEED and LEAST_SPEED <= vy <= MOST_SPEED and LEAST_CLIMB <= vs <= MOST_CLIMB):
             return None
         if is_measured:
             self.measure(row, frame, (east, north), (east_off, north_off), (x, y), (speed_x, speed_y), (vx, vy), alt - height, vs)
-        return Traffic._make((self.ids[name], place_x, place_y, alt, vx, vy, vs, age))
+        return TRAFFIC((self.ids[name], place_x, place_y, alt, vx, vy, vs, age))
 
     def measure(self, row, frame, way, place, seen_place, speed, seen_speed, rounded_up, vs):
         """Notes what rounding costs between the ownship and an aircraft."""
-        losses, own, own_row, (own_x, own_y), (seen_own_x, seen_own_y) = self.losses, frame.own, frame.row, frame.speed, frame.seen_speed
-        (x, y), (vx, vy), (seen_x, seen_y), (seen_vx, seen_vy) = place, speed, seen_place, seen_speed
-        losses.note(x, y, seen_x / 1000, seen_y / 1000, vx - own_x, vy - own_y, seen_vx / 10 - seen_own_x, seen_vy / 10 - seen_own_y)
-        losses.note_vertical(rounded_up - own.alt + own_row.alt, vs - own.vs - row.vs + own_row.vs)
+        (own_x, own_y), (seen_own_x, seen_own_y), (x, y), (vx, vy) = frame.speed, frame.seen_speed, seen_place, seen_speed
+        self.losses.note(place, (speed[0] - own_x, speed[1] - own_y), (x / 1000, y / 1000), (vx / 10 - seen_own_x, vy / 10 - seen_own_y),
+                         rounded_up - frame.own.alt + frame.row.alt, vs - frame.own.vs - row.vs + frame.row.vs)
         if self.on_earth:
-            losses.note_plane(math.hypot(*way), own_row.place, row.place)
+            self.losses.note_plane(math.hypot(*way), frame.row.place, row.place)
 
     def traffic_at(self, frame, second):
         """The aircraft, of more than there may be the first ones by the rank, in the order in which the recording first has them; and the
         comments that name those that the moment lacks, the nearest one first."""
         own_row, there, lacking = frame.row, [], []
         now, own_place, on_earth = own_row.time, own_row.place, self.on_earth
-        oldest, old = self.oldest + ROUNDING, []
+        oldest, forgotten, old = self.oldest + ROUNDING, FORGOTTEN + ROUNDING, []
         for row in self.latest.values():
-            name, time, place, _, east_speed, north_speed, _, _, _ = row
+            name, time, place, height, v_east, v_north, climb, _, _ = row
             late = now - time
-            if late > FORGOTTEN + ROUNDING:
+            if late > forgotten:
                 old.append(name)
                 continue
             east, north = offset(own_place, place, on_earth)
             hours = late / 3600
-            far = math.hypot(east + east_speed * hours, north + north_speed * hours)
+            far = math.hypot(east + v_east * hours, north + v_north * hours)
             if late > oldest:
                 self.leave_out("aircraft", f"whose report is older than {self.oldest:g} s, in a moment")
                 lacking.append((far, name, self.lack_of(row, now)))
                 if late > self.gaps.get(name, 0):
                     self.gaps[name] = late
             else:
-                there.append((far, row, east, north))
+                there.append((far, row, east, north, name, late, height, v_east, v_north, climb))
         for name in old:
             self.forget(name)
             del self.latest[name]
         if len(there) > MOST_AIRCRAFT:
-            there.sort(key=lambda one: self.rank(one[0], one[1], one[2:], own_row))
+            there.sort(key=(lambda one: self.rank(one, own_row)) if self.rank else operator.itemgetter(0))
         found = self.found_of(there, frame, lacking)
         lacking += self.incomplete_at(own_row)
         return [found[name] for name in self.latest if name in found] if len(there) > MOST_AIRCRAFT else list(found.values()), self.comments(lacking, second)
@@ -290,14 +298,19 @@ class Maker:
         if len(there) > MEASURED:
             farthest = sorted(one[0] for one in there)[MEASURED - 1]
             self.losses.is_in_part = True
-        for far, row, east, north in there:
-            made = self.traffic_of(row, frame, east, north, far <= farthest) if len(found) < MOST_AIRCRAFT else None
-            if made:
-                found[row.name] = made
-                self.used.add(row.name)
+        for place, one in enumerate(there):
+            far, name = one[0], one[4]
+            made = self.traffic_of(one, frame, far <= farthest)
+            if made is None:
+                lacking.append((far, name, "out of range"))
                 continue
-            self.leave_out("aircraft", "out of range, or more than there may be, in a moment")
-            lacking.append((far, row.name, f"more than {MOST_AIRCRAFT} aircraft" if len(found) == MOST_AIRCRAFT else "out of range"))
+            found[name] = made
+            if len(found) == MOST_AIRCRAFT:
+                lacking += [(other[0], other[4], MORE) for other in there[place + 1:]]
+                break
+        if left_out := len(there) - len(found):
+            self.leave_out("aircraft", "out of range, or more than there may be, in a moment", left_out)
+        self.used.update(found)
         return found
 
     def lack_of(self, row, now):

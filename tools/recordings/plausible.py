@@ -1,5 +1,6 @@
 """Names what cannot be right in a recording: places against speeds, tracks and climbs, and aircraft that are no others. What it says is an
 advice and decides nothing."""
+import collections
 import math
 import statistics
 from operator import attrgetter
@@ -109,10 +110,10 @@ def between(name, rows, own, on_earth):
 
 def by_name(rows):
     """The reports of each aircraft in the order of their times."""
-    found = {}
+    found = collections.defaultdict(list)
     for row in rows:
         if not row.lack:
-            found.setdefault(row.name, []).append(row)
+            found[row.name].append(row)
     for some in found.values():
         some.sort(key=attrgetter("time"))
     return found

@@ -195,10 +195,12 @@ class UsualRows:
     def rows(self, lines):
         """The reports of lines, or None where one may be another one than it looks."""
         text = "\n".join(lines)
-        cells = [line.split(self.mark) for line in lines]
-        if any(mark in text for mark in self.unusual) or any(len(row) != self.columns for row in cells):
+        try:
+            cells = [*zip(*[line.split(self.mark) for line in lines], strict=True)]
+        except ValueError:
             return None
-        cells = [*zip(*cells)]
+        if len(cells) != self.columns or any(mark in text for mark in self.unusual):
+            return None
         names = [*map(str.strip, cells[self.name])]
         if not all(names) or self.ground is not None and any(cell.strip().lower() in ON_GROUND for cell in cells[self.ground]):
             return None
