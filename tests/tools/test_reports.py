@@ -422,6 +422,30 @@ class Pipes(unittest.TestCase):
             run = subprocess.run(words, env=environment, stdin=subprocess.DEVNULL, capture_output=True)
             self.assertEqual((run.returncode, run.stderr), (1, b""))
 
+    def test_progress_goes_on_once_all_is_read(self):
+        """Of tools that work long after that: here after no second at all, and each line is erased before the tool ends."""
+        states = "format 2\n" + "".join(f"moment {time}\n# origin 52.0 4.0 0.0\nown 0 0 10000 0 3600 0\ntraffic A 0 5000 10300 0 0 0 0\nend\n" for time in (0, 10))
+        works = {"draw": ["alerts of aircraft", "places in moments", "heights of aircraft", "ways of aircraft"],
+                 "geojson": ["places in moments", "tracks", "closest approaches in moments"], "compare": ["moments compared"]}
+        with tempfile.TemporaryDirectory() as folder:
+            paths = [os.path.join(folder, name) for name in ("a.states", "a.report")]
+            for path, text in zip(paths, (states, REPORT)):
+                with open(path, "w", encoding="utf-8") as file:
+                    file.write(text)
+            for tool, wanted in works.items():
+                words = [paths[1]] * 2 if tool == "compare" else ["--states", *paths]
+                begin = f"import progress, runpy, sys; progress.AFTER = progress.EVERY = 0; sys.argv = [{tool!r}, *sys.argv[1:]]; runpy.run_path('{TOP}/tools/{tool}', run_name='__main__')"
+                above, below = os.openpty()
+                run = subprocess.run([sys.executable, "-B", "-c", begin, *words], env={**os.environ, "PYTHONPATH": os.path.join(TOP, "tools")},
+                                     stdin=subprocess.DEVNULL, stdout=subprocess.PIPE, stderr=below)
+                os.close(below)
+                said = os.read(above, 1 << 16).decode()
+                os.close(above)
+                self.assertIn(run.returncode, (0, 1))
+                self.assertTrue(said.endswith("\r\x1b[K"), said)
+                shown = [line.split(": ")[1] for line in said.split("\r\x1b[K") if line]
+                self.assertEqual([work for work in dict.fromkeys(shown) if work in wanted], wanted)
+
     def test_progress_waits_for_two_seconds_and_is_not_written_all_the_time(self):
         """By a clock that is set here: nothing at 1.9 s, a line at 2, none at 2.1, and the next at 2.3."""
         now, terminal = [0.0], io.StringIO()

@@ -1,12 +1,11 @@
 """Makes moments of reports: each report of the ownship is one, at its whole second, with the latest report of every other aircraft until
 then. Reports are taken in the order of their times, one by one, so that a recording can be read while it is written."""
 import bisect
-import functools
 import math
 import operator
 import re
 
-from daidalus_files import (AGE, ALT, FIELDS, GS, MOST_AIRCRAFT, VS, VX, Own, Traffic, X, fixed, lacks_line, origin_line)
+from daidalus_files import (AGE, ALT, FIELDS, GS, MOST_AIRCRAFT, VS, VX, Own, X, fixed, lacks_line, origin_line, whole_traffic)
 from headings import velocity
 
 from .plane import closest, offset, on_ellipsoid, rotated
@@ -14,7 +13,6 @@ from .plane import closest, offset, on_ellipsoid, rotated
 LAST_SECOND = FIELDS["moment"][0].high
 LEAST_PLACE, MOST_PLACE, LEAST_SPEED, MOST_SPEED, LEAST_CLIMB, MOST_CLIMB = X.low, X.high, VX.low, VX.high, VS.low, VS.high
 LOWEST, HIGHEST, MOST_AGE = ALT.low, ALT.high, AGE.high
-TRAFFIC = functools.partial(tuple.__new__, Traffic)  # an aircraft of a whole tuple, in less time than by its fields
 FARTHEST_OWN = 100  # NM: an ownship that is farther from where it began is put at 0 0
 ROUNDING = 1e-6  # s: what the rounding of a time's unit may cost
 CLOSE = 5  # NM: an aircraft that is nearer counts as if its closest approach were now
@@ -239,19 +237,21 @@ class Maker:
         _, row, east, north, name, late, height, v_east, v_north, climb = there
         cosine, sine = frame.cos, frame.sin
         age = int(late + ROUNDING) if late < MOST_AGE else MOST_AGE
-        hours = (late - age) / 3600
-        east_then, north_then = east + v_east * hours, north + v_north * hours
+        east_then, north_then = east, north
+        if late != age:
+            hours = (late - age) / 3600
+            east_then, north_then, height = east + v_east * hours, north + v_north * hours, height + climb * hours * 60
         east_off, north_off = east_then * cosine - north_then * sine, east_then * sine + north_then * cosine
         speed_x, speed_y = v_east * cosine - v_north * sine, v_east * sine + v_north * cosine
-        height += climb * hours * 60
-        x, y, alt, vx, vy, vs = round(1000 * east_off), round(1000 * north_off), round(height), round(10 * speed_x), round(10 * speed_y), round(climb)
-        place_x, place_y = frame.x + x, frame.y + y
+        # (by its method a number is rounded in less than half the time that round takes)
+        x, y, vx, vy = (1000 * east_off).__round__(), (1000 * north_off).__round__(), (10 * speed_x).__round__(), (10 * speed_y).__round__()
+        place_x, place_y, alt, vs = frame.x + x, frame.y + y, height.__round__(), climb.__round__()
         if not (LEAST_PLACE <= place_x <= MOST_PLACE and LEAST_PLACE <= place_y <= MOST_PLACE and LOWEST <= alt <= HIGHEST
                 and LEAST_SPEED <= vx <= MOST_SPEED and LEAST_SPEED <= vy <= MOST_SPEED and LEAST_CLIMB <= vs <= MOST_CLIMB):
             return None
         if is_measured:
             self.measure(row, frame, (east, north), (east_off, north_off), (x, y), (speed_x, speed_y), (vx, vy), alt - height, vs)
-        return TRAFFIC((self.ids[name], place_x, place_y, alt, vx, vy, vs, age))
+        return whole_traffic((self.ids[name], place_x, place_y, alt, vx, vy, vs, age))
 
     def measure(self, row, frame, way, place, seen_place, speed, seen_speed, rounded_up, vs):
         """Notes what rounding costs between the ownship and an aircraft."""
