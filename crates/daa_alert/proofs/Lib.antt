@@ -3,3 +3,4 @@ pub mod HalvingLemmas
 pub mod AlertLemmas
 pub mod OneAlert
 pub mod SomeAlert
+pub mod DecidableAlerts

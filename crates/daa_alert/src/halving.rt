@@ -12,8 +12,8 @@ ghost use Rattle.daa_config.specs.Settings.{rates_of};
 ghost use Rattle.daa_alert.specs.Inside.Halving.{IsLeastLeg};
 
 use daa_config::{Candidate, Config};
-use daa_detect::is_hit;
-use daa_legs::{OwnLeg, OwnRun, present_leg, relative_run};
+use daa_legs::{OwnLeg, OwnRun, present_leg};
+use daa_meet::meets_on_run;
 use daa_state::{Own, Traffic};
 use daa_taumod::Volume;
 
@@ -80,7 +80,7 @@ fn meets_within(
         velocity: hold.velocity,
         secs: m,
     };
-    is_hit(&relative_run(&run, aircraft, 0), volume)
+    meets_on_run(&run, aircraft, volume, 0)
 }
 
 /// The least leg of the present flight that violates the volume, where some leg below `m` does.

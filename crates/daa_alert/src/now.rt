@@ -7,10 +7,10 @@ ghost use Rattle.daa_legs.specs.Alerts.{IsNowLevel};
 ghost use Rattle.daa_legs.specs.Meeting.{relative_leg};
 
 use daa_config::{Candidate, Config};
-use daa_fixed::{Leg, Point};
+use daa_fixed::Leg;
 use daa_legs::{present_leg, relative};
+use daa_meet::violates_now;
 use daa_state::{Own, Traffic};
-use daa_taumod::violates;
 
 /// The greatest level whose volume is violated now, at the beginning of the present flight, or 0
 /// where none is. Levels need not nest: a lower one may be clear.
@@ -20,10 +20,9 @@ pub fn now_level(config: &Config, own: &Own, aircraft: &Traffic) -> u8
     ensures { IsNowLevel config.now own.now aircraft.now result }
 {
     let leg = first_second(config, own, aircraft);
-    let begin = Point { num: 0, den: 1 };
     let mut l = config.levels();
     while l > 0 {
-        if violates(&leg, &config.level(l).volume, &begin) {
+        if violates_now(&leg, &config.level(l).volume, aircraft) {
             return l as u8;
         }
         l -= 1;

@@ -13,7 +13,8 @@ use Rattle.daa_state.specs.declared.word.Picture.{Picture}
 use Rattle.daa_state.specs.declared.word.Traffic.{Traffic}
 use Rattle.daa_scan.specs.SceneState.{MeetsAt}
 use Rattle.daa_fixed.proofs.Decidable.{IsDecidable}
-use Rattle.daa_scan.proofs.DecidableMeetings.{on_decided, alerts_decided, now_decided, met_at_decided}
+use Rattle.daa_scan.proofs.DecidableMeetings.{met_at_decided}
+use Rattle.daa_alert.proofs.DecidableAlerts.{legs_told, alerts_decided, violated_now_decided}
 use Rattle.daa_alert.proofs.SomeAlert.{some_greatest, some_now, some_alert}
 use Rattle.daa_fixed.specs.One.{HasOne}
 use Rattle.daa_bands.specs.KindBands.{AreKindBands}
@@ -64,8 +65,8 @@ module _ (s : Settings) (p : Picture) (a : IsAccepted s) (r : IsPictureInRange p
 
   aircraft_lines : (t : Traffic) → IsTrafficInRange t → (text : Text) × AreAircraftLines s p t text
   aircraft_lines t in' =
-      let now = some_now s p.own t (now_decided s p.own t a r.own in') in
-      let alert = some_alert s p.own t (on_decided s p.own t a r.own in') (alerts_decided s p.own t a r.own in') in
+      let now = some_now s p.own t (violated_now_decided s p.own t a r.own in') in
+      let alert = some_alert s p.own t (legs_told s p.own t a r.own in') (alerts_decided s p.own t a r.own in') in
       (numbers_line (codes "now " ++ t.id) (now.0 ∷ []) ++ alert_line t.id alert.0.level alert.0.first, record { now = now.0; alert = alert.0; now_is = now.1; alert_is = alert.1; text_is = refl })
 
   alert_lines : (ts : List Traffic) → AllByRecursion IsTrafficInRange ts → (text : Text) × SplitsByEach (AreAircraftLines s p) ts text

@@ -7,6 +7,7 @@ use Rattle.rand_pcg.specs.Pcg.{multiplier_64, pcg32}
 use Rattle.daa_exercise.specs.Outputs.{outputs_of, picked}
 use Rattle.daa_exercise.specs.Inside.Drawing.{after, generator_of, name_of, outputs_from}
 use Rattle.daa_exercise.specs.Moments.{own_at, aircraft_at}
+use Rattle.daa_state.specs.Bounds.{exact}
 use Rattle.daa_state.specs.declared.word.Own.{Own}
 use Rattle.daa_state.specs.declared.word.Traffic.{Traffic}
 
@@ -104,7 +105,7 @@ pub fits_above : (altitude above : ℤ) → pos 0 ≤ℤ altitude → altitude �
 fits_above altitude above low high least most = omega (arith, ints)
 
 abbrev pub aircraft_of : List ℕ → (x y alt vx vy vs : ℤ) → Traffic
-aircraft_of id x y alt vx vy vs = record { id = id; x = x; y = y; alt = alt; vx = vx; vy = vy; vs = vs; age = 0 }
+aircraft_of id x y alt vx vy vs = record { id = id; x = x; y = y; alt = alt; vx = vx; vy = vy; vs = vs; age = 0; bounds = exact }
 
 -- the aircraft of six draws
 pub aircraft_drawn : (g g1 g2 g3 g4 g5 g6 : Lcg) (altitude : ℤ) (number : ℕ) (id : List ℕ) (x y above vx vy vs : ℤ)

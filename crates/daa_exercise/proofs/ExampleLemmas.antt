@@ -6,6 +6,7 @@ use Rattle.rand_core.specs.Pcg32Seed.{pcg32_seed}
 use Rattle.rand_core.specs.Steps.{first_words, u32_at, word_bytes}
 use Rattle.rand_pcg.specs.Lcg.{state_after}
 use Rattle.rand_pcg.specs.Pcg.{pcg32, pcg32_of_seed}
+use Rattle.daa_state.specs.Bounds.{exact}
 use Rattle.daa_state.specs.declared.word.Own.{Own}
 use Rattle.daa_state.specs.declared.word.Traffic.{Traffic}
 use Rattle.daa_exercise.specs.Levels.{counts_of}
@@ -37,6 +38,7 @@ the_aircraft = record {
   vy = neg_ℤ (pos 127);
   vs = neg_ℤ (pos 1150);
   age = 0;
+  bounds = exact;
 }
 
 pub aircraft : aircraft_at (outputs_of 7) (pos 1232) 1 5 ≡ the_aircraft

@@ -8,6 +8,7 @@ use Rattle.daa_state.specs.Id.{is_id}
 use Rattle.daa_state.specs.InRange.{IsWithin, IsOwnInRange, IsTrafficInRange, IsPictureInRange}
 use Rattle.daa_state.specs.Ranges.{Bounds, positions, altitudes, tracks, ground_speeds, speeds, vertical_speeds}
 use Rattle.daa_state.specs.declared.word.Traffic.{Traffic}
+use Rattle.daa_state.proofs.WordRanges.{exact-range}
 use Rattle.daa_exercise.specs.Inside.Drawing.{Outputs, moment_at, name_of, traffic_at}
 use Rattle.daa_exercise.specs.Moments.{own_at, count_at, aircraft_at, begin_of, moment_of}
 use Rattle.daa_exercise.specs.Outputs.{picked}
@@ -119,6 +120,7 @@ module _ (output : Outputs) where
     vy = picks drawn_speeds speeds (output (at + 4)) (omega (arith, ints)) (omega (arith, ints)) (omega (arith, ints));
     vs = picks drawn_vertical_speeds vertical_speeds (output (at + 5)) (omega (arith, ints)) (omega (arith, ints)) (omega (arith, ints));
     age = omega arith;
+    bounds = exact-range;
   }
 
   pub aircraft_is : (altitude : ℤ) (count at k : ℕ) (d : Traffic) → k < count → slice_index_or (traffic_at output altitude count at) k d ≡ aircraft_at output altitude (k + 1) (at + 6 * k)

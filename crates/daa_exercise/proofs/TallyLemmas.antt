@@ -6,6 +6,7 @@ use Rattle.std.specs.Prelude.{slice_index, slice_index_or}
 use Rattle.std.specs.List.{AllZip}
 use Rattle.std.proofs.lemmas.Bool.{cases_lt}
 use Rattle.std.proofs.lemmas.List.{length_push, get_or_push, get_or_append_left, get_or-append_right}
+use Rattle.daa_state.specs.Bounds.{exact}
 use Rattle.daa_state.specs.declared.word.Traffic.{Traffic}
 use Rattle.daa_bands.specs.Board.{HasLevelOn, mask_levels}
 use Rattle.daa_bands.specs.KindBands.{AreShown}
@@ -58,7 +59,7 @@ module _ {A : Type 0} (R : A → ℕ → Type 0) (xs : List A) where
 
 -- an aircraft that stands for those past the end of a list
 abbrev pub no_aircraft : Traffic
-no_aircraft = record { id = []; x = pos 0; y = pos 0; alt = pos 0; vx = pos 0; vy = pos 0; vs = pos 0; age = 0 }
+no_aircraft = record { id = []; x = pos 0; y = pos 0; alt = pos 0; vx = pos 0; vy = pos 0; vs = pos 0; age = 0; bounds = exact }
 
 -- ---- one candidate more
 

@@ -2,6 +2,7 @@
 -- those of the moment before end.
 use Rattle.std.specs.Prelude.{ℕ, zero, suc, ℤ, pos, neg_ℤ, nat_abs, ◌+◌, ◌*◌, ◌+ℤ◌, ◌++◌, map, codes, decimal}
 use Rattle.std.specs.List.{range_with_len}
+use Rattle.daa_state.specs.Bounds.{exact}
 use Rattle.daa_state.specs.declared.word.Own.{Own}
 use Rattle.daa_state.specs.declared.word.Traffic.{Traffic}
 use Rattle.daa_state.specs.declared.word.Picture.{Picture}
@@ -26,7 +27,8 @@ module _ (output : ℕ → ℕ) where
 
   -- the aircraft of a number is named A1, A2, ..; its six numbers are the draws from a place on: its place east and north in
   -- thousandths of a nautical mile, its height above the ownship's altitude in feet, its speeds east and north in tenths of a
-  -- knot and its vertical speed in feet per minute; its report is of this second
+  -- knot and its vertical speed in feet per minute; its report is of this second, and
+  -- taken as the truth
   unfoldable pub aircraft_at : ℤ → ℕ → ℕ → Traffic
   aircraft_at own_altitude number at = record {
     id = codes "A" ++ decimal number;
@@ -37,6 +39,7 @@ module _ (output : ℕ → ℕ) where
     vy = picked (neg_ℤ (pos 5000)) (pos 5000) (output (at + 4));
     vs = picked (neg_ℤ (pos 2000)) (pos 2000) (output (at + 5));
     age = 0;
+    bounds = exact;
   }
 
   -- where the draws of the moment of a time begin; times are 0, 1, ..; a moment takes five draws, and six for each aircraft

@@ -9,7 +9,7 @@ ghost use Rattle.daa_exercise.specs.Moments.{own_at, aircraft_at};
 ghost use Rattle.daa_exercise.specs.Outputs.{picked};
 
 use arrayvec::ArrayVec;
-use daa_state::{Id, MOST_AIRCRAFT, Own, Picture, Traffic};
+use daa_state::{Id, MOST_AIRCRAFT, Own, PairBounds, Picture, Traffic};
 use rand_core::SeedableRng;
 use rand_core::utils::NextWord;
 use rand_pcg::Lcg64Xsh32;
@@ -149,6 +149,7 @@ impl Draws {
             vy,
             vs,
             age: 0,
+            bounds: PairBounds::EXACT,
         }
     }
 

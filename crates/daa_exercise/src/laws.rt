@@ -10,6 +10,7 @@ ghost use Rattle.daa_config.specs.Candidates.{values_of};
 ghost use Rattle.daa_fixed.specs.One.{HasOne};
 ghost use Rattle.daa_config.specs.Settings.{IsAccepted, Settings};
 ghost use Rattle.daa_config.specs.declared.kind.Kind.{Kind};
+ghost use Rattle.daa_state.specs.Bounds.{exact};
 ghost use Rattle.daa_state.specs.InRange.{IsPictureInRange};
 ghost use Rattle.daa_state.specs.MomentStep.{MomentsState};
 ghost use Rattle.daa_state.specs.Picture.{aircraft_of};
@@ -87,6 +88,7 @@ pub fn worked_examples()
           vy = neg_ℤ (pos 127);
           vs = neg_ℤ (pos 1150);
           age = 0;
+          bounds = exact;
         } }
     ensures second { begin_of (outputs_of 7) 1 ≡ 23 }
     ensures counts { counts_of 3 (0 ∷ 3 ∷ 0 ∷ 1 ∷ []) ≡ 2 ∷ 1 ∷ 0 ∷ 1 ∷ [] }

@@ -10,7 +10,7 @@ use daa_config::read;
 use daa_engine::Engine;
 use daa_io::{Gate, Meeting, MemSink, Open};
 use daa_report::SinkFault;
-use daa_state::{Id, Own, Picture, Traffic};
+use daa_state::{Id, Own, PairBounds, Picture, Traffic};
 use std::alloc::Global;
 use std::array;
 use std::process::Abort;
@@ -78,6 +78,7 @@ fn the_first_moment_of_a_seed(rt: HostRuntime) {
             vy,
             vs,
             age: 0,
+            bounds: PairBounds::EXACT,
         };
         assert!(rt; *aircraft == expected, "{name}");
     }

@@ -4,7 +4,6 @@ use Rattle.std.proofs.lemmas.Bool.{cases_lt}
 use Rattle.std.specs.Prelude.{MatchOption, slice_get}
 use Rattle.daa_fixed.specs.Time.{HoldsSometime}
 use Rattle.daa_taumod.specs.declared.Volume.{Volume}
-use Rattle.daa_taumod.specs.Volume.{Violates}
 use Rattle.daa_config.specs.declared.candidate.Candidate.{Candidate}
 use Rattle.daa_config.specs.declared.candidate.Candidate.TheVariants.{Hold}
 use Rattle.daa_config.specs.Settings.{Settings, rates_of}
@@ -15,6 +14,7 @@ use Rattle.daa_state.specs.Picture.{aircraft_of}
 use Rattle.daa_legs.specs.declared.own_leg.OwnLeg.{OwnLeg}
 use Rattle.daa_legs.specs.Branch.{FliesAs}
 use Rattle.daa_legs.specs.Relative.{relative_for}
+use Rattle.daa_legs.specs.Violating.{ViolatesBy}
 use Rattle.daa_legs.specs.Meeting.{ViolatesOn, Meets}
 use Rattle.daa_recovery.specs.OutlookState.{IsHorizon}
 use Rattle.daa_last.specs.Delayed.{ViolatesDelayed}
@@ -26,8 +26,8 @@ use Rattle.daa_last.proofs.Delays.{held_leg, undelayed, delayed_leg_alike}
 
 -- a leg that is the same is violated at the same times
 same_violated : (aircraft : Traffic) (volume : Volume) (k : ℕ) (x y : OwnLeg) → x ≡ y
-    → HoldsSometime 1 (Violates (relative_for 1 x aircraft k) volume) → HoldsSometime 1 (Violates (relative_for 1 y aircraft k) volume)
-same_violated aircraft volume k x y e v = subst (λ (l : OwnLeg). HoldsSometime 1 (Violates (relative_for 1 l aircraft k) volume)) e v
+    → HoldsSometime 1 (ViolatesBy aircraft k (relative_for 1 x aircraft k) volume) → HoldsSometime 1 (ViolatesBy aircraft k (relative_for 1 y aircraft k) volume)
+same_violated aircraft volume k x y e v = subst (λ (l : OwnLeg). HoldsSometime 1 (ViolatesBy aircraft k (relative_for 1 l aircraft k) volume)) e v
 
 module _ (settings : Settings) (own : Own) (candidate : Candidate) (m : ℕ) (aircraft : Traffic) where
   -- before leg m it violates what Hold does

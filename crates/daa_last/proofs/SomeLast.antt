@@ -22,9 +22,8 @@ use Rattle.daa_state.specs.Picture.{aircraft_of}
 use Rattle.daa_legs.specs.Relative.{relative_for}
 use Rattle.daa_legs.proofs.AtLevel.{one_level, looked, nothing, level_at}
 use Rattle.daa_legs.proofs.Relatives.{relative_for-in_range}
-use Rattle.daa_meet.specs.Trials.{is_violated_sometime}
 use Rattle.daa_meet.proofs.TrialLemmas.{le_is}
-use Rattle.daa_meet.proofs.Deciding.{sometime_is}
+use Rattle.daa_meet.proofs.Meetings.{seen_decided}
 use Rattle.daa_recovery.specs.OutlookState.{Closes, IsHorizon}
 use Rattle.daa_recovery.proofs.Horizons.{level_within}
 use Rattle.daa_recovery.proofs.SomeRecovery.{at_place, some_horizon}
@@ -40,8 +39,7 @@ module _ (settings : Settings) (a : IsAccepted settings) where
     on_decided volume v k lt =
         let in_range = relative_for-in_range 1 (leg_delayed own (rates_of settings) m candidate k) aircraft k
         (delayed-in_range own (rates_of settings) m o a.rates candidate c k (omega (arith, lt))) t (omega (arith, lt)) (omega arith) (omega arith) in
-        by_test (is_violated_sometime (relative_for 1 (leg_delayed own (rates_of settings) m candidate k) aircraft k) volume)
-        (sometime_is (relative_for 1 (leg_delayed own (rates_of settings) m candidate k) aircraft k) volume in_range v)
+        seen_decided aircraft volume k (relative_for 1 (leg_delayed own (rates_of settings) m candidate k) aircraft k) t in_range v lt
 
     -- level l closes and is violated
     record ClosesAt (l : ℕ) : Type 0 where

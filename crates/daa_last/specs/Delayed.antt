@@ -6,7 +6,6 @@ use Rattle.daa_fixed.specs.Leg.{plus, sum_below}
 use Rattle.daa_fixed.specs.Time.{HoldsSometime}
 use Rattle.daa_fixed.specs.Toward.{toward_of}
 use Rattle.daa_taumod.specs.declared.Volume.{Volume}
-use Rattle.daa_taumod.specs.Volume.{Violates}
 use Rattle.daa_config.specs.declared.config.Rates.{Rates}
 use Rattle.daa_config.specs.declared.candidate.Candidate.{Candidate}
 use Rattle.daa_config.specs.declared.candidate.Candidate.TheVariants.{Hold, Altitude}
@@ -17,6 +16,7 @@ use Rattle.daa_legs.specs.declared.own_leg.OwnLeg.{OwnLeg}
 use Rattle.daa_legs.specs.Motion.{vertical_speed_on, velocity_on}
 use Rattle.daa_legs.specs.OwnLeg.{own_place, place_on}
 use Rattle.daa_legs.specs.Relative.{relative_for}
+use Rattle.daa_legs.specs.Violating.{ViolatesBy}
 
 module _ (own : Own) (rates : Rates) (m : ℕ) where
   -- the height in units, j seconds after second m, on the way from Hold's height at second m to altitude `a`, in feet
@@ -48,4 +48,4 @@ module _ (own : Own) (rates : Rates) (m : ℕ) where
 module _ (settings : Settings) (own : Own) (candidate : Candidate) (m : ℕ) (aircraft : Traffic) where
   -- the volume is violated at some time of leg k, one second, as the aircraft sees it, its beginning and its end among them
   abbrev pub ViolatesDelayed : Volume → ℕ → Type 0
-  ViolatesDelayed volume k = HoldsSometime 1 (Violates (relative_for 1 (leg_delayed own (rates_of settings) m candidate k) aircraft k) volume)
+  ViolatesDelayed volume k = HoldsSometime 1 (ViolatesBy aircraft k (relative_for 1 (leg_delayed own (rates_of settings) m candidate k) aircraft k) volume)

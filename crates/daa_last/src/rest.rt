@@ -12,9 +12,9 @@ ghost use Rattle.daa_last.specs.Inside.Rests.{flown_at, velocity_from as next_ve
 ghost use Rattle.daa_last.specs.Inside.Search.{MeetsLate};
 
 use daa_config::{Candidate, Config, Rates};
-use daa_detect::is_hit;
 use daa_fixed::{Flat, Solid, feet, toward};
 use daa_legs::{OwnRun, relative_run};
+use daa_meet::violates_on;
 use daa_state::{Own, Traffic};
 use daa_taumod::Volume;
 
@@ -62,7 +62,7 @@ pub(crate) fn meets_late(
     let mut k = rest.from;
     while k < upto {
         let run = next_run(&rates, rest, &place, k, upto - k);
-        if is_hit(&relative_run(&run, aircraft, k), volume) {
+        if violates_on(&relative_run(&run, aircraft, k), volume, aircraft, k) {
             return true;
         }
         place = end_of_run(&run);

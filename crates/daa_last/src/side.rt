@@ -5,11 +5,12 @@ ghost use Rattle.std.specs.Prelude.{◌≡◌, ◌↔◌, ◌⊎◌, ◌<◌, �
 ghost use Rattle.daa_fixed.specs.Leg.{IsLegInRange, IsSolidBelow};
 ghost use Rattle.daa_fixed.specs.Size.{IsWithin};
 ghost use Rattle.daa_fixed.specs.Time.{HoldsSometime};
-ghost use Rattle.daa_taumod.specs.Volume.{IsVolumeInRange, Violates};
+ghost use Rattle.daa_taumod.specs.Volume.{IsVolumeInRange};
 ghost use Rattle.daa_config.specs.declared.candidate.Candidate.TheVariants.{Hold};
 ghost use Rattle.daa_config.specs.Candidates.{candidate_to};
 ghost use Rattle.daa_config.specs.Settings.{rates_of};
 ghost use Rattle.daa_state.specs.InRange.{IsOwnInRange, IsPictureInRange, IsTrafficInRange};
+ghost use Rattle.daa_legs.specs.Violating.{ViolatesBy};
 ghost use Rattle.daa_legs.specs.Branch.{lead_of};
 ghost use Rattle.daa_legs.specs.OwnLeg.{place_on, IsOwnLegInRange};
 ghost use Rattle.daa_last.specs.Delayed.{leg_delayed};
@@ -19,9 +20,9 @@ ghost use Rattle.daa_last.specs.Inside.Sides.{moved as moved_to, IsSide, AreSide
 
 use crate::aircraft::aircraft_at;
 use daa_config::{Candidate, Config, Kind, Level};
-use daa_detect::is_hit;
 use daa_fixed::{Flat, Leg, Solid};
 use daa_legs::{OwnLeg, Trunk, relative};
+use daa_meet::violates_on;
 use daa_recovery::lead_to;
 use daa_state::{Own, Picture, Traffic};
 
@@ -239,7 +240,7 @@ fn is_struck_by(
     let seen = relative(leg, aircraft, k);
     for l in config.resolve()..config.levels() + 1 {
         let level = config.level(l);
-        if violates_before(&seen, k, level) {
+        if violates_before(&seen, aircraft, k, level) {
             return true;
         }
     }
@@ -248,11 +249,13 @@ fn is_struck_by(
 
 /// Whether what an aircraft sees of leg `k` violates the level, and the leg is before the level's
 /// lookahead.
-fn violates_before(seen: &Leg, k: u32, level: &Level) -> bool
+fn violates_before(seen: &Leg, aircraft: &Traffic, k: u32, level: &Level) -> bool
     requires seen { IsLegInRange seen.now }
+    requires aircraft { IsTrafficInRange aircraft.now }
+    requires k { k < 180 }
     requires level { IsVolumeInRange level.now.volume }
     ensures { IsTrue result ↔ ((k < level.now.lookahead)
-        × HoldsSometime seen.now.secs (Violates seen.now level.now.volume)) }
+        × HoldsSometime seen.now.secs (ViolatesBy aircraft.now k seen.now level.now.volume)) }
 {
-    k < level.lookahead && is_hit(seen, &level.volume)
+    k < level.lookahead && violates_on(seen, &level.volume, aircraft, k)
 }

@@ -11,8 +11,8 @@ ghost use Rattle.daa_last.specs.Inside.Starts.{AreStartsBeside, AreStartsUnder};
 
 use crate::aircraft::aircraft_at;
 use daa_config::{Config, Level};
-use daa_detect::is_hit;
 use daa_legs::{Trunk, relative};
+use daa_meet::violates_on;
 use daa_state::{Own, Picture, Traffic};
 use daa_taumod::Volume;
 
@@ -95,7 +95,7 @@ fn first_held(
 {
     let _rates = config.rates();
     for k in 0..upto {
-        if is_hit(&relative(held.leg(k), aircraft, k), volume) {
+        if violates_on(&relative(held.leg(k), aircraft, k), volume, aircraft, k) {
             return Some(k);
         }
     }

@@ -2,13 +2,13 @@
 use Rattle.std.proofs.Common.{◌≡◌, ◌↔◌, ◌⊎◌, inl, inr, ℕ, zero, suc, ◌-◌, pos, Option, Some, None, refl, sym, subst, ◌∙◌, arith}
 use Rattle.std.specs.Prelude.{slice_get}
 use Rattle.std.proofs.lemmas.Option.{same_Some}
-use Rattle.daa_taumod.specs.Volume.{Violates}
 use Rattle.daa_config.specs.declared.candidate.Candidate.{Candidate}
 use Rattle.daa_config.specs.declared.candidate.Candidate.TheVariants.{Hold}
 use Rattle.daa_config.specs.declared.level.Level.{Level}
 use Rattle.daa_config.specs.Settings.{Settings, IsLevelAt}
 use Rattle.daa_state.specs.declared.word.Own.{Own}
 use Rattle.daa_state.specs.declared.word.Traffic.{Traffic}
+use Rattle.daa_legs.specs.Violating.{ViolatesBy}
 use Rattle.daa_legs.specs.Meeting.{relative_leg, MeetsWithin, Meets}
 use Rattle.daa_legs.specs.Alerts.{Alerts, ViolatesNow}
 
@@ -46,8 +46,8 @@ module _ (settings : Settings) (own : Own) (aircraft : Traffic) (l : ℕ) (level
     (λ m. subst (λ (x : Level). MeetsWithin settings own Hold aircraft x.volume x.alert) (one_level settings l m.level level m.there at) m.meets),
   )
 
-  pub violates_now_at : Violates (relative_leg settings own Hold aircraft 0) level.volume (pos 0) (pos 1) ↔ ViolatesNow settings own aircraft l
+  pub violates_now_at : ViolatesBy aircraft 0 (relative_leg settings own Hold aircraft 0) level.volume (pos 0) (pos 1) ↔ ViolatesNow settings own aircraft l
   violates_now_at = (
     (λ v. record { level = level; there = at; violates = v }),
-    (λ v. subst (λ (x : Level). Violates (relative_leg settings own Hold aircraft 0) x.volume (pos 0) (pos 1)) (one_level settings l v.level level v.there at) v.violates),
+    (λ v. subst (λ (x : Level). ViolatesBy aircraft 0 (relative_leg settings own Hold aircraft 0) x.volume (pos 0) (pos 1)) (one_level settings l v.level level v.there at) v.violates),
   )

@@ -6,7 +6,6 @@ use Rattle.daa_fixed.specs.declared.Leg.{Leg}
 use Rattle.daa_fixed.specs.Leg.{plus, sum_below}
 use Rattle.daa_fixed.specs.Time.{HoldsSometime}
 use Rattle.daa_taumod.specs.declared.Volume.{Volume}
-use Rattle.daa_taumod.specs.Volume.{Violates}
 use Rattle.daa_config.specs.declared.candidate.Candidate.{Candidate}
 use Rattle.daa_config.specs.declared.config.Rates.{Rates}
 use Rattle.daa_config.specs.Settings.{Settings, rates_of}
@@ -19,6 +18,7 @@ use Rattle.daa_config.specs.declared.candidate.Candidate.TheVariants.{Altitude}
 use Rattle.daa_legs.specs.OwnLeg.{own_place, place_on, own_leg}
 use Rattle.daa_legs.specs.Relative.{relative_for}
 use Rattle.daa_legs.specs.Runs.{IsRunOf, MeetsBetween}
+use Rattle.daa_legs.specs.Violating.{ViolatesBy}
 use Rattle.daa_legs.specs.Meeting.{relative_leg, ViolatesOn, MeetsWithin}
 use Rattle.daa_legs.specs.declared.branch.Parting.{Parting}
 use Rattle.daa_legs.specs.Branch.{lead_of, velocity_there, FliesAs, FliesOn}
@@ -92,8 +92,8 @@ module _ (settings : Settings) (own : Own) (candidate lead : Candidate) (aircraf
   violates_alike k h =
       let e : relative_leg settings own candidate aircraft k ≡ relative_leg settings own lead aircraft k = ap (λ (l : OwnLeg). relative_for 1 l aircraft k)
       (leg_alike own (rates_of settings) candidate lead n alike k h) in (
-        (λ v. subst (λ (l : Leg). HoldsSometime 1 (Violates l volume)) e v),
-        (λ v. subst (λ (l : Leg). HoldsSometime 1 (Violates l volume)) (sym e) v),
+        (λ v. subst (λ (l : Leg). HoldsSometime 1 (ViolatesBy aircraft k l volume)) e v),
+        (λ v. subst (λ (l : Leg). HoldsSometime 1 (ViolatesBy aircraft k l volume)) (sym e) v),
       )
 
   -- where it meets the aircraft within m seconds

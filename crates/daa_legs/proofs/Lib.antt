@@ -6,6 +6,9 @@ pub mod Places
 pub mod Relatives
 pub mod TrafficPlaces
 pub mod Stretches
+pub mod Exactness
+pub mod Growing
+pub mod Seconds
 pub mod FlightLemmas
 pub mod ClosedForms
 pub mod RunLemmas

@@ -1,6 +1,6 @@
 -- What a candidate shares with the present flight: who changes track or ground speed alone keeps its heights, who changes height alone
 -- keeps its way over ground.
-use Rattle.std.proofs.Common.{◌≡◌, ℕ, zero, suc, ◌+◌, ◌<◌, inl, inr, refl, ap, sym, subst, ◌∙◌, arith, ℤ, pos, ◌+ℤ◌, ◌-ℤ◌, ◌*ℤ◌, ◌≤ℤ◌, unsigned_abs}
+use Rattle.std.proofs.Common.{◌≡◌, ℕ, zero, suc, ◌+◌, ◌<◌, inl, inr, true, refl, ap, sym, subst, ◌∙◌, arith, ℤ, pos, ◌+ℤ◌, ◌-ℤ◌, ◌*ℤ◌, ◌≤ℤ◌, unsigned_abs}
 use Rattle.std.proofs.lemmas.Int.{ints}
 use Rattle.daa_fixed.proofs.Ring.{square_nonneg, mul_nonneg}
 use Rattle.daa_fixed.specs.declared.Flat.{Flat}
@@ -24,9 +24,11 @@ use Rattle.daa_legs.specs.Motion.{track_on, ground_speed_on, vertical_speed_on, 
 use Rattle.daa_legs.specs.OwnLeg.{own_leg, place_on}
 use Rattle.daa_legs.specs.Relative.{relative_for, traffic_place, traffic_velocity}
 use Rattle.daa_legs.specs.Runs.{IsRunOf}
+use Rattle.daa_legs.specs.Errors.{are_exact}
 use Rattle.daa_legs.specs.Meeting.{relative_leg, MeetsWithin}
 use Rattle.daa_legs.proofs.SharedWords.{in_height}
 use Rattle.daa_legs.specs.Inside.Shared.{in_plane}
+use Rattle.daa_legs.proofs.Exactness.{exact_leg}
 use Rattle.daa_legs.proofs.StraightHold.{hold_run}
 use Rattle.daa_legs.proofs.Stretches.{violates_moved, out_second, short_place, short_height, short_velocity}
 
@@ -168,9 +170,10 @@ module _ (settings : Settings) (own : Own) (candidate : Candidate) (aircraft : T
       (ap (λ (v : Solid). record { flat = record { east = pos 0; north = pos 0 }; up = v.up }) (velocity_of_leg k b))
       there
 
-  pub met_in_height : KeepsHeights own (rates_of settings) candidate → MeetsWithin settings own candidate aircraft volume m → HoldsSometime m (Violates (in_height present) volume)
-  met_in_height h e =
-      let x = e.violates in
+  pub met_in_height : are_exact aircraft.bounds ≡ true → KeepsHeights own (rates_of settings) candidate → MeetsWithin settings own candidate aircraft volume m
+      → HoldsSometime m (Violates (in_height present) volume)
+  met_in_height exact h e =
+      let x = (exact_leg settings own candidate aircraft volume exact e.leg).0 e.violates in
       record {
         num = x.num +ℤ pos e.leg *ℤ x.den;
         den = x.den;
@@ -178,9 +181,10 @@ module _ (settings : Settings) (own : Own) (candidate : Candidate) (aircraft : T
         holds = held_in_height h e.leg e.before x.num x.den x.time.fraction x.holds;
       }
 
-  pub met_in_plane : KeepsWay own (rates_of settings) candidate → MeetsWithin settings own candidate aircraft volume m → HoldsSometime m (Violates (in_plane present) volume)
-  met_in_plane h e =
-      let x = e.violates in
+  pub met_in_plane : are_exact aircraft.bounds ≡ true → KeepsWay own (rates_of settings) candidate → MeetsWithin settings own candidate aircraft volume m
+      → HoldsSometime m (Violates (in_plane present) volume)
+  met_in_plane exact h e =
+      let x = (exact_leg settings own candidate aircraft volume exact e.leg).0 e.violates in
       let k : ℕ = e.leg in
       let there : Violates (in_plane (relative_leg settings own Hold aircraft k)) volume x.num x.den =
       subst (λ (l : Leg). Violates l volume x.num x.den) (same_way h k) (violates_in_plane (relative_leg settings own candidate aircraft k) volume x.num x.den x.time.fraction x.holds) in

@@ -1,5 +1,5 @@
 -- A stretch of legs with one velocity is one long leg.
-use Rattle.std.proofs.Common.{[], ◌∷◌, ◌≡◌, ◌↔◌, ℕ, zero, suc, ◌+◌, ◌-◌, ◌<◌, ◌≤◌, inl, inr, refl, ap, sym, subst, ◌∙◌, arith, ℤ, pos, ◌+ℤ◌, ◌-ℤ◌, ◌*ℤ◌, ◌≤ℤ◌, ◌<ℤ◌, unsigned_abs, neg_ℤ}
+use Rattle.std.proofs.Common.{[], ◌∷◌, ◌≡◌, ℕ, zero, suc, ◌+◌, ◌<◌, ◌≤◌, inl, inr, ap, sym, subst, ◌∙◌, arith, ℤ, pos, ◌+ℤ◌, ◌-ℤ◌, ◌*ℤ◌, ◌≤ℤ◌, ◌<ℤ◌, unsigned_abs, neg_ℤ}
 use Rattle.std.proofs.lemmas.Int.{ints, by_lt_z}
 use Rattle.daa_fixed.proofs.Ring.{ring, #, ◌⊕◌, ◌⊖◌, ◌⊗◌, mul_nonneg}
 use Rattle.daa_fixed.proofs.Integers.{mul_le, le_trans_ℤ}
@@ -8,7 +8,7 @@ use Rattle.daa_fixed.specs.declared.Solid.{Solid}
 use Rattle.daa_fixed.specs.declared.Leg.{Leg}
 use Rattle.daa_fixed.specs.Flat.{dot_of, cross_of, square_of}
 use Rattle.daa_fixed.specs.Leg.{plus, times}
-use Rattle.daa_fixed.specs.Time.{IsTime, HoldsSometime}
+use Rattle.daa_fixed.specs.Time.{IsTime}
 use Rattle.daa_taumod.specs.declared.Volume.{Volume}
 use Rattle.daa_taumod.specs.declared.Model.{Model}
 use Rattle.daa_taumod.specs.declared.Model.TheVariants.{Tau, Tcpa, Taumod, Tep}
@@ -22,8 +22,8 @@ use Rattle.daa_legs.specs.declared.own_leg.OwnRun.{OwnRun}
 use Rattle.daa_legs.specs.Motion.{velocity_on}
 use Rattle.daa_legs.specs.OwnLeg.{place_on}
 use Rattle.daa_legs.specs.Relative.{relative_for}
-use Rattle.daa_legs.specs.Meeting.{relative_leg, ViolatesOn}
-use Rattle.daa_legs.specs.Runs.{first_leg_of, IsRunOf, MeetsBetween}
+use Rattle.daa_legs.specs.Meeting.{relative_leg}
+use Rattle.daa_legs.specs.Runs.{first_leg_of, IsRunOf}
 use Rattle.daa_legs.proofs.Places.{place-next}
 
 -- ---- flown straight on
@@ -192,42 +192,3 @@ module _ (settings : Settings) (own : Own) (candidate : Candidate) (aircraft : T
       let s = since aircraft.age k j in
       (λ i. d *ℤ ((p i).up -ℤ (pos 60 *ℤ aircraft.alt +ℤ s i *ℤ aircraft.vs)) +ℤ n *ℤ ((v i).up -ℤ aircraft.vs))
       ∙ axis run.place.up run.velocity.up (pos 60 *ℤ aircraft.alt) (pos (aircraft.age + k)) aircraft.vs (pos j) n d
-
-  from_short : MeetsBetween settings own candidate aircraft volume k (k + run.secs) → HoldsSometime run.secs (Violates long volume)
-  from_short m =
-      let j : ℕ = m.leg - k in
-      let h : j < run.secs = omega (arith, m.not_before, m.before) in
-      let e : m.leg ≡ k + j = omega (arith, m.not_before) in
-      let x : ViolatesOn settings own candidate aircraft volume (k + j) = subst (λ (i : ℕ). ViolatesOn settings own candidate aircraft volume i) e m.violates in
-      record {
-        num = x.num +ℤ pos j *ℤ x.den;
-        den = x.den;
-        time = out_second run.secs j x.num x.den h x.time;
-        holds = violates_moved (relative_leg settings own candidate aircraft (k + j)) long volume x.num (x.num +ℤ pos j *ℤ x.den) x.den
-            (short_place j h x.num x.den) (short_height j h x.num x.den) (short_velocity j h) x.holds;
-      }
-
-  seconds_of : (secs : ℕ) → secs ≡ run.secs → 1 ≤ secs → HoldsSometime secs (Violates long volume) → MeetsBetween settings own candidate aircraft volume k (k + run.secs)
-  seconds_of zero e some x = absurd (omega (arith, some))
-  seconds_of (suc secs) e some x =
-      let s = in_second secs x.num x.den x.time in
-      let h : s.second < run.secs = omega (arith, s.before, e) in
-      let n : ℤ = x.num -ℤ pos s.second *ℤ x.den in
-      let back : n +ℤ pos s.second *ℤ x.den ≡ x.num = omega (arith, ints) in
-      record {
-        leg = k + s.second;
-        not_before = omega arith;
-        before = omega (arith, h);
-        violates = record {
-          num = n;
-          den = x.den;
-          time = s.time;
-          holds = violates_moved long (relative_leg settings own candidate aircraft (k + s.second)) volume x.num n x.den
-              (sym (short_place s.second h n x.den ∙ ap (λ (z : ℤ). place_at long z x.den) back))
-              (sym (short_height s.second h n x.den ∙ ap (λ (z : ℤ). height_at long z x.den) back))
-              (sym (short_velocity s.second h)) x.holds;
-        };
-      }
-
-  pub seconds : 1 ≤ run.secs → HoldsSometime run.secs (Violates long volume) ↔ MeetsBetween settings own candidate aircraft volume k (k + run.secs)
-  seconds some = ((λ x. seconds_of run.secs refl some x), from_short)

@@ -1,12 +1,12 @@
 -- The alerts of an aircraft: whether the present flight, which holds track and speeds, violates a level's volume.
 use Rattle.std.specs.Prelude.{ℕ, pos, ◌<◌, length}
-use Rattle.daa_taumod.specs.Volume.{Violates}
 use Rattle.daa_config.specs.declared.candidate.Candidate.TheVariants.{Hold}
 use Rattle.daa_config.specs.declared.level.Level.{Level}
 use Rattle.daa_fixed.specs.Mask.{IsGreatestLevel}
 use Rattle.daa_config.specs.Settings.{Settings, IsLevelAt}
 use Rattle.daa_state.specs.declared.word.Own.{Own}
 use Rattle.daa_state.specs.declared.word.Traffic.{Traffic}
+use Rattle.daa_legs.specs.Violating.{ViolatesBy}
 use Rattle.daa_legs.specs.Meeting.{relative_leg, ViolatesOn, MeetsWithin}
 
 module _ (settings : Settings) (own : Own) (aircraft : Traffic) where
@@ -20,7 +20,7 @@ module _ (settings : Settings) (own : Own) (aircraft : Traffic) where
   pub record ViolatesNow (l : ℕ) : Type 0 where
     pub level : Level
     pub there : IsLevelAt settings l level
-    pub violates : Violates (relative_leg settings own Hold aircraft 0) level.volume (pos 0) (pos 1)
+    pub violates : ViolatesBy aircraft 0 (relative_leg settings own Hold aircraft 0) level.volume (pos 0) (pos 1)
 
   -- the greatest level at which the aircraft alerts, or 0
   abbrev pub IsAlertLevel : ℕ → Type 0

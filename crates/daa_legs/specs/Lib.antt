@@ -3,6 +3,8 @@ pub mod Motion
 pub mod OwnLeg
 pub mod FlightState
 pub mod Relative
+pub mod Errors
+pub mod Violating
 pub mod Meeting
 pub mod Runs
 pub mod Alerts

@@ -1,9 +1,8 @@
--- Whether a candidate's flight violates a level's volume round an aircraft.
+-- Whether a candidate's flight violates a level's volume round an aircraft, or may in truth, where what is reported may err.
 use Rattle.std.specs.Prelude.{ℕ, ◌<◌}
 use Rattle.daa_fixed.specs.Time.{HoldsSometime}
 use Rattle.daa_fixed.specs.declared.Leg.{Leg}
 use Rattle.daa_taumod.specs.declared.Volume.{Volume}
-use Rattle.daa_taumod.specs.Volume.{Violates}
 use Rattle.daa_config.specs.declared.candidate.Candidate.{Candidate}
 use Rattle.daa_config.specs.declared.level.Level.{Level}
 use Rattle.daa_config.specs.Settings.{Settings, IsLevelAt, rates_of}
@@ -11,6 +10,7 @@ use Rattle.daa_state.specs.declared.word.Own.{Own}
 use Rattle.daa_state.specs.declared.word.Traffic.{Traffic}
 use Rattle.daa_legs.specs.OwnLeg.{own_leg}
 use Rattle.daa_legs.specs.Relative.{relative_for}
+use Rattle.daa_legs.specs.Violating.{ViolatesBy}
 
 module _ (settings : Settings) (own : Own) (candidate : Candidate) (aircraft : Traffic) where
   -- leg k, one second, as the aircraft sees it
@@ -19,7 +19,7 @@ module _ (settings : Settings) (own : Own) (candidate : Candidate) (aircraft : T
 
   -- the volume is violated at some time of leg k, its beginning and its end among them
   abbrev pub ViolatesOn : Volume → ℕ → Type 0
-  ViolatesOn volume k = HoldsSometime 1 (Violates (relative_leg k) volume)
+  ViolatesOn volume k = HoldsSometime 1 (ViolatesBy aircraft k (relative_leg k) volume)
 
   -- the volume is violated on one of the legs before m, within m seconds
   pub record MeetsWithin (volume : Volume) (m : ℕ) : Type 0 where

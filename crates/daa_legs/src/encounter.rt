@@ -3,7 +3,6 @@
 ghost use Rattle.std.specs.Prelude.{◌↔◌, ◌+◌, ◌≡◌, ◌<◌, ◌≤◌};
 ghost use Rattle.daa_fixed.specs.Leg.{IsLegInRange, IsSolidBelow, minus};
 ghost use Rattle.daa_fixed.specs.Time.{HoldsSometime};
-ghost use Rattle.daa_taumod.specs.Volume.{Violates};
 ghost use Rattle.daa_taumod.specs.declared.Volume.{Volume};
 ghost use Rattle.daa_config.specs.declared.candidate.Candidate.{Candidate};
 ghost use Rattle.daa_config.specs.Settings.{Settings, rates_of};
@@ -12,6 +11,7 @@ ghost use Rattle.daa_state.specs.declared.word.Own.{Own};
 ghost use Rattle.daa_legs.specs.OwnLeg.{IsOwnLegInRange};
 ghost use Rattle.daa_legs.specs.Runs.{first_leg_of, IsRunOf, IsOwnRunInRange, MeetsBetween};
 ghost use Rattle.daa_legs.specs.Relative.{relative_for, traffic_place};
+ghost use Rattle.daa_legs.specs.Violating.{ViolatesBy};
 
 use crate::own_leg::{OwnLeg, OwnRun};
 use crate::traffic::{place_from, traffic_now, velocity_of};
@@ -50,7 +50,8 @@ pub fn relative_from(leg: &OwnLeg, aircraft: &Traffic, now: &Solid, k: u32) -> L
 
 /// The ownship minus the aircraft on the run that begins with second `k`, as one leg of all its
 /// seconds. Where the run is one of a candidate's flight, a volume is violated at some time of this
-/// leg exactly where it is at some time of one of the run's one-second legs.
+/// leg exactly where it is at some time of one of the run's one-second legs, also where what is
+/// reported may err.
 pub fn relative_run(run: &OwnRun, aircraft: &Traffic, k: u32) -> Leg
     requires run { IsOwnRunInRange run.now }
     requires aircraft { IsTrafficInRange aircraft.now }
@@ -60,7 +61,7 @@ pub fn relative_run(run: &OwnRun, aircraft: &Traffic, k: u32) -> Leg
     ensures in_range { IsLegInRange result }
     ensures seconds { (settings : Settings) (own : Own) (candidate : Candidate) (volume : Volume)
         → IsRunOf own (rates_of settings) candidate k run.now
-        → HoldsSometime result.secs (Violates result volume)
+        → HoldsSometime result.secs (ViolatesBy aircraft.now k result volume)
         ↔ MeetsBetween settings own candidate aircraft.now volume k (k + run.now.secs) }
 {
     relative_run_from(run, aircraft, &traffic_now(aircraft), k)
@@ -78,7 +79,7 @@ pub fn relative_run_from(run: &OwnRun, aircraft: &Traffic, now: &Solid, k: u32) 
     ensures in_range { IsLegInRange result }
     ensures seconds { (settings : Settings) (own : Own) (candidate : Candidate) (volume : Volume)
         → IsRunOf own (rates_of settings) candidate k run.now
-        → HoldsSometime result.secs (Violates result volume)
+        → HoldsSometime result.secs (ViolatesBy aircraft.now k result volume)
         ↔ MeetsBetween settings own candidate aircraft.now volume k (k + run.now.secs) }
 {
     Leg {

@@ -8,6 +8,7 @@ ghost use Rattle.daa_heading.specs.Heading.{velocity_of};
 ghost use Rattle.daa_config.specs.declared.config.Rates.{Rates};
 ghost use Rattle.daa_config.specs.declared.candidate.Candidate.{Candidate};
 ghost use Rattle.daa_config.specs.Settings.{AreRatesInRange, IsCandidateInRange};
+ghost use Rattle.daa_state.specs.Bounds.{exact};
 ghost use Rattle.daa_state.specs.declared.word.Own.{Own};
 ghost use Rattle.daa_state.specs.declared.word.Traffic.{Traffic};
 ghost use Rattle.daa_state.specs.InRange.{IsOwnInRange};
@@ -77,6 +78,7 @@ pub fn worked_examples()
       vy = pos 3600;
       vs = pos 60;
       age = 10;
+      bounds = exact;
     }) 5 ≡ record { flat = record { east = pos 23760; north = pos 18000 }; up = pos 60900 } }
 {}
 

@@ -29,7 +29,7 @@ use Rattle.daa_detect.specs.Hit.{IsHit}
 use Rattle.daa_detect.proofs.Distance.{HasDistance, distance}
 use Rattle.daa_detect.proofs.NearestTimes.{time_between, vertex_small, near_there, violates_there, none_elsewhere}
 use Rattle.daa_detect.proofs.TauTimes.{HasTauQuad, tau_quad, soon_violates, soon_at_least}
-use Rattle.daa_meet.specs.Trials.{is_soon, is_near, passes_near, is_closing, is_near_in_height, is_co_altitude_soon, is_violated, is_violated_at, is_violated_sometime}
+use Rattle.daa_meet.proofs.Trials.{is_soon, is_near, passes_near, is_closing, is_near_in_height, is_co_altitude_soon, is_violated, is_violated_at, is_violated_sometime}
 use Rattle.daa_meet.proofs.TrialLemmas.{le_is, lt_is, both_is, either_is, some_is}
 
 -- ---- the volume at n/d

@@ -5,7 +5,6 @@ use Rattle.daa_fixed.specs.declared.Leg.{Leg}
 use Rattle.daa_fixed.specs.declared.Solid.{Solid}
 use Rattle.daa_fixed.specs.Time.{HoldsSometime}
 use Rattle.daa_taumod.specs.declared.Volume.{Volume}
-use Rattle.daa_taumod.specs.Volume.{Violates}
 use Rattle.daa_config.specs.declared.candidate.Candidate.{Candidate}
 use Rattle.daa_config.specs.declared.config.Rates.{Rates}
 use Rattle.daa_config.specs.Settings.{Settings, AreRatesInRange, IsCandidateInRange, rates_of}
@@ -18,6 +17,7 @@ use Rattle.daa_legs.specs.Trunk.{AreLegsOf}
 use Rattle.daa_legs.specs.OwnLeg.{place_on, own_leg, IsOwnLegInRange}
 use Rattle.daa_legs.specs.Relative.{relative_for}
 use Rattle.daa_legs.specs.Runs.{IsRunOf, MeetsBetween}
+use Rattle.daa_legs.specs.Violating.{ViolatesBy}
 use Rattle.daa_legs.specs.Meeting.{ViolatesOn}
 use Rattle.daa_legs.proofs.Branching.{straight_run}
 use Rattle.daa_legs.proofs.Places.{place_on-below, velocity_on-below}
@@ -45,17 +45,17 @@ module _ (own : Own) (rates : Rates) (candidate : Candidate) where
 module _ (settings : Settings) (own : Own) (candidate : Candidate) (aircraft : Traffic) (volume : Volume) where
   -- a test of one leg
   pub leg_tested : (k : ℕ) (leg : OwnLeg) (rel : Leg) (hit : Bool) → leg ≡ own_leg own (rates_of settings) candidate k → rel ≡ relative_for 1 leg aircraft k
-      → IsTrue hit ↔ HoldsSometime rel.secs (Violates rel volume) → IsTrue hit ↔ ViolatesOn settings own candidate aircraft volume k
+      → IsTrue hit ↔ HoldsSometime rel.secs (ViolatesBy aircraft k rel volume) → IsTrue hit ↔ ViolatesOn settings own candidate aircraft volume k
   unfolding relative_for
-  leg_tested k leg rel hit e r h = subst (λ (l : Leg). IsTrue hit ↔ HoldsSometime l.secs (Violates l volume)) (r ∙ ap (λ (l : OwnLeg). relative_for 1 l aircraft k) e) h
+  leg_tested k leg rel hit e r h = subst (λ (l : Leg). IsTrue hit ↔ HoldsSometime l.secs (ViolatesBy aircraft k l volume)) (r ∙ ap (λ (l : OwnLeg). relative_for 1 l aircraft k) e) h
 
   -- a test of the straight rest
   pub rest_tested : (k secs m : ℕ) (rest : OwnLeg) (rel : Leg) (hit : Bool) → rest ≡ own_leg own (rates_of settings) candidate k → FliesOn own (rates_of settings) candidate k → k + secs ≡ m
       → (IsRunOf own (rates_of settings) candidate k
       (record { place = rest.place; velocity = rest.velocity; secs = secs })
-      → HoldsSometime rel.secs (Violates rel volume)
+      → HoldsSometime rel.secs (ViolatesBy aircraft k rel volume)
       ↔ MeetsBetween settings own candidate aircraft volume k (k + secs))
-      → IsTrue hit ↔ HoldsSometime rel.secs (Violates rel volume) → IsTrue hit ↔ MeetsBetween settings own candidate aircraft volume k m
+      → IsTrue hit ↔ HoldsSometime rel.secs (ViolatesBy aircraft k rel volume) → IsTrue hit ↔ MeetsBetween settings own candidate aircraft volume k m
   rest_tested k secs m rest rel hit e on s seconds tests =
       let there = subst
       (λ (v : Solid). IsRunOf own (rates_of settings) candidate k

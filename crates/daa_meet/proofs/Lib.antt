@@ -1,5 +1,9 @@
+pub mod Trials
 pub mod TrialLemmas
 pub mod Deciding
 pub mod Meetings
+pub mod Told
 pub mod Walking
 pub mod Keeping
+pub mod Truth
+pub mod Constant

@@ -3,7 +3,7 @@ use Rattle.std.proofs.Common.{◌≡◌, ◌↔◌, ◌⊎◌, inl, inr, ⊎_eli
 use Rattle.std.specs.Prelude.{IsTrue, int_le, int_lt}
 use Rattle.std.proofs.lemmas.Bool.{cases_lt}
 use Rattle.daa_fixed.proofs.Bounds.{le_test, lt_test}
-use Rattle.daa_meet.specs.Trials.{some_below}
+use Rattle.daa_meet.proofs.Trials.{some_below}
 
 pub le_is : (x y : ℤ) → IsTrue (int_le x y) ↔ (x ≤ℤ y)
 le_is x y = le_test x y x y refl refl

@@ -5,13 +5,13 @@ use Rattle.std.specs.Prelude.{IsTrue}
 use Rattle.daa_fixed.specs.Time.{HoldsSometime}
 use Rattle.daa_fixed.specs.declared.Leg.{Leg}
 use Rattle.daa_taumod.specs.declared.Volume.{Volume}
-use Rattle.daa_taumod.specs.Volume.{Violates}
 use Rattle.daa_config.specs.declared.candidate.Candidate.{Candidate}
 use Rattle.daa_config.specs.Settings.{Settings, rates_of}
 use Rattle.daa_state.specs.declared.word.Own.{Own}
 use Rattle.daa_state.specs.declared.word.Traffic.{Traffic}
 use Rattle.daa_legs.specs.FlightState.{FlightState}
 use Rattle.daa_legs.specs.declared.own_leg.OwnRun.{OwnRun}
+use Rattle.daa_legs.specs.Violating.{ViolatesBy}
 use Rattle.daa_legs.specs.Meeting.{ViolatesOn, MeetsWithin}
 use Rattle.daa_legs.specs.Runs.{IsRunOf, MeetsBetween}
 
@@ -25,8 +25,8 @@ module _ (settings : Settings) (own : Own) (candidate : Candidate) (aircraft : T
   pub run_is : (flight : FlightState) (first k : ℕ) (run : OwnRun) (rel : Leg) (b : Bool)
       → IsWalkedFrom settings own candidate aircraft volume flight first k
       → IsRunOf flight.own flight.rates flight.candidate flight.taken run
-      → (IsRunOf own (rates_of settings) candidate k run → HoldsSometime rel.secs (Violates rel volume) ↔ MeetsBetween settings own candidate aircraft volume k (k + run.secs))
-      → IsTrue b ↔ HoldsSometime rel.secs (Violates rel volume) → IsTrue b ↔ MeetsBetween settings own candidate aircraft volume k (k + run.secs)
+      → (IsRunOf own (rates_of settings) candidate k run → HoldsSometime rel.secs (ViolatesBy aircraft k rel volume) ↔ MeetsBetween settings own candidate aircraft volume k (k + run.secs))
+      → IsTrue b ↔ HoldsSometime rel.secs (ViolatesBy aircraft k rel volume) → IsTrue b ↔ MeetsBetween settings own candidate aircraft volume k (k + run.secs)
   run_is flight first k run rel b w r same h =
       let its : IsRunOf own (rates_of settings) candidate k run = subst (λ (f : FlightState). IsRunOf f.own f.rates f.candidate f.taken run) w.at r in
       ((λ t. (same its).0 (h.0 t)), (λ m. h.1 ((same its).1 m)))

@@ -8,7 +8,7 @@ ghost use Rattle.daa_state.specs.declared.word.Own.{Own};
 ghost use Rattle.daa_state.specs.InRange.{IsTrafficInRange};
 ghost use Rattle.daa_legs.specs.Runs.{IsOwnRunInRange, IsRunOf, MeetsBetween};
 
-use daa_detect::is_hit;
+use crate::leg::violates_on;
 use daa_legs::{OwnRun, relative_run};
 use daa_state::Traffic;
 use daa_taumod::Volume;
@@ -27,5 +27,5 @@ pub fn meets_on_run(run: &OwnRun, aircraft: &Traffic, volume: &Volume, k: u32) -
         → IsTrue result
         ↔ MeetsBetween settings own candidate aircraft.now volume.now k (k + run.now.secs) }
 {
-    is_hit(&relative_run(run, aircraft, k), volume)
+    violates_on(&relative_run(run, aircraft, k), volume, aircraft, k)
 }

@@ -7,8 +7,8 @@ ghost use Rattle.daa_config.specs.Settings.{IsCandidateInRange, rates_of};
 ghost use Rattle.daa_state.specs.InRange.{IsOwnInRange, IsTrafficInRange};
 ghost use Rattle.daa_legs.specs.Runs.{MeetsBetween};
 
+use crate::leg::violates_on;
 use daa_config::{Candidate, Config};
-use daa_detect::is_hit;
 use daa_legs::{Flight, relative_run};
 use daa_state::{Own, Traffic};
 use daa_taumod::Volume;
@@ -40,7 +40,7 @@ pub fn meets_between(
     let mut k = first;
     while k < upto {
         let run = flight.next_run(upto - k);
-        if is_hit(&relative_run(&run, aircraft, k), volume) {
+        if violates_on(&relative_run(&run, aircraft, k), volume, aircraft, k) {
             return true;
         }
         k += run.secs;

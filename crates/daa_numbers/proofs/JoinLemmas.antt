@@ -1,5 +1,5 @@
 -- Masks that are joined, and pictures that are put together.
-use Rattle.std.proofs.Common.{◌≡◌, ◌≢◌, ◌<◌, ◌≤◌, ◌+◌, ◌-◌, ◌^◌, ◌⊎◌, ◌↔◌, ◌∙◌, ◌++◌, ℕ, List, length, bit_or, Option, Some, true, false, refl, ap, sym, subst, arith, inl, inr, below_more, get_or}
+use Rattle.std.proofs.Common.{◌≡◌, ◌<◌, ◌≤◌, ◌+◌, ◌-◌, ◌^◌, ◌⊎◌, ◌∙◌, ◌++◌, ℕ, List, length, bit_or, Some, refl, ap, sym, subst, arith, inl, inr, below_more, get_or}
 use Rattle.std.specs.Prelude.{slice_index, slice_get}
 use Rattle.std.specs.Int.Bits.{or_zero_r}
 use Rattle.std.proofs.lemmas.Bool.{cases_lt}

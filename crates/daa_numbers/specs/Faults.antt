@@ -1,7 +1,7 @@
 -- What is filled in of states that are refused.
 use Rattle.std.specs.Prelude.{◌≡◌, ◌⊎◌, ℕ, ℤ, pos, List, Some, None}
 use Rattle.daa_state.specs.declared.checked.Field.{Field}
-use Rattle.daa_state.specs.declared.checked.Field.TheVariants.{East, North, Altitude, Track, GroundSpeed, VerticalSpeed, SpeedEast, SpeedNorth, Age}
+use Rattle.daa_state.specs.declared.checked.Field.TheVariants.{East, North, Altitude, Track, GroundSpeed, VerticalSpeed, SpeedEast, SpeedNorth, Age, PlaceBound, HeightBound, SpeedBound, ClimbBound}
 use Rattle.daa_state.specs.declared.checked.OutOfRange.{OutOfRange}
 use Rattle.daa_state.specs.declared.checked.PictureFault.TheVariants as says
 use Rattle.daa_state.specs.declared.word.Own.{Own}
@@ -25,6 +25,10 @@ number_of_field VerticalSpeed = pos 6
 number_of_field SpeedEast = pos 7
 number_of_field SpeedNorth = pos 8
 number_of_field Age = pos 9
+number_of_field PlaceBound = pos 10
+number_of_field HeightBound = pos 11
+number_of_field SpeedBound = pos 12
+number_of_field ClimbBound = pos 13
 
 -- a code and a place alone
 abbrev pub plain_fault : ℤ → ℕ → DaaFault

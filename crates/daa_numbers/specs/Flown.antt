@@ -1,5 +1,5 @@
 -- States flown straight on from the time of their report to another time, in milliseconds.
-use Rattle.std.specs.Prelude.{◌≡◌, ◌⊎◌, ◌<◌, ◌≤◌, ◌+◌, ◌*◌, ℕ, ℤ, pos, neg_ℤ, ◌+ℤ◌, ◌-ℤ◌, ◌*ℤ◌, ◌<ℤ◌, Option, None}
+use Rattle.std.specs.Prelude.{◌≡◌, ◌⊎◌, ◌<◌, ◌≤◌, ◌+◌, ◌*◌, ℕ, ℤ, pos, neg_ℤ, ◌+ℤ◌, ◌*ℤ◌, ◌<ℤ◌, Option, None}
 use Rattle.std.specs.Int.{int_div_euclid}
 use Rattle.daa_fixed.specs.Size.{IsFrom}
 use Rattle.daa_heading.specs.Heading.{velocity_of}

@@ -34,6 +34,10 @@ fn field_number(field: Field) -> i32
         Field::SpeedEast => 7,
         Field::SpeedNorth => 8,
         Field::Age => 9,
+        Field::PlaceBound => 10,
+        Field::HeightBound => 11,
+        Field::SpeedBound => 12,
+        Field::ClimbBound => 13,
     }
 }
 

@@ -3,6 +3,7 @@
 ghost use Rattle.std.specs.Prelude.{◌≡◌, ◌≢◌, ◌≤◌, pos, negsuc, true, false, OnOk, OnErr, IfOk, IfErr};
 ghost use Rattle.std.specs.List.{list_any};
 ghost use Rattle.std.specs.Str.{bytes_eq};
+ghost use Rattle.daa_state.specs.Bounds.{IsSure, IsSureWord};
 ghost use Rattle.daa_state.specs.Fault.{code_of};
 ghost use Rattle.daa_state.specs.InRange.{IsFormat, IsWordInRange};
 ghost use Rattle.daa_state.specs.MomentStep.{has_id};
@@ -53,6 +54,7 @@ fn id_bytes(id: &Id) -> [u8; 8]
 
 /// The numbers of an aircraft.
 fn traffic_numbers(traffic: &Traffic) -> DaaTraffic
+    requires { IsSure traffic.now }
     ensures { traffic_of result ≡ traffic.now }
 {
     DaaTraffic {
@@ -134,6 +136,7 @@ fn has_id(lines: &DaaLines, id: &Id) -> bool
 /// Adds an aircraft to the open moment, or says why it is refused.
 #[tactic(auto, unfolding(daa_state::specs::MomentStep::step, daa_state::specs::MomentStep::with_traffic))]
 fn add_traffic(lines: &mut DaaLines, traffic: &Traffic) -> Result<(), LineFault>
+    requires { IsSure traffic.now }
     ensures taken { OnOk result (IsStep lines.old (Word.Traffic traffic.now) false lines.new) }
     ensures refused { IfErr result (IsNoStep lines.old (Word.Traffic traffic.now)) }
     ensures kept { OnErr result (lines.new ≡ lines.old) }
@@ -195,7 +198,8 @@ fn end(lines: &mut DaaLines) -> Result<(), LineFault>
 /// Takes a word: whether it ended the moment, or why it is refused.
 #[tactic(auto, unfolding(daa_state::specs::MomentStep::step))]
 fn take(lines: &mut DaaLines, word: &Word) -> Result<bool, LineFault>
-    requires { IsWordInRange word.now }
+    requires range { IsWordInRange word.now }
+    requires sure { IsSureWord word.now }
     ensures taken { IfOk result (λ ended. IsStep lines.old word.now ended lines.new) }
     ensures refused { IfErr result (IsNoStep lines.old word.now) }
     ensures kept { OnErr result (lines.new ≡ lines.old) }

@@ -12,7 +12,7 @@ ghost use Rattle.daa_numbers.specs.States.{text_of, traffic_of, picture_of};
 
 use crate::refusal::Refusal;
 use arrayvec::ArrayVec;
-use daa_state::{Id, MOST_AIRCRAFT, Own, Picture, PictureFault, Traffic};
+use daa_state::{Id, MOST_AIRCRAFT, Own, PairBounds, Picture, PictureFault, Traffic};
 
 /// An aircraft: its identifier, which ends before the first byte 0, or with the eighth, and the
 /// numbers of [`Traffic`], in the same units and ranges.
@@ -41,7 +41,8 @@ pub(crate) fn text_end(bytes: &[u8]) -> usize
     end
 }
 
-/// The aircraft of these numbers, if its identifier is allowed.
+/// The aircraft of these numbers, if its identifier is allowed. Its report and the ownship's are
+/// taken as the truth.
 fn aircraft(traffic: &DaaTraffic) -> Option<Traffic>
     ensures { SomeIff result (IsTrue (is_id (text_of traffic.now.id))) (traffic_of traffic.now) }
 {
@@ -55,6 +56,7 @@ fn aircraft(traffic: &DaaTraffic) -> Option<Traffic>
         vy: traffic.vy,
         vs: traffic.vs,
         age: traffic.age,
+        bounds: PairBounds::EXACT,
     })
 }
 

@@ -6,7 +6,6 @@ use Rattle.std.proofs.lemmas.List.{get_or-set_same, get_or-set_other, length-set
 use Rattle.std.proofs.Math.ListN.{set}
 use Rattle.daa_fixed.specs.declared.Leg.{Leg}
 use Rattle.daa_fixed.specs.Time.{HoldsSometime}
-use Rattle.daa_taumod.specs.Volume.{Violates}
 use Rattle.daa_config.specs.declared.candidate.Candidate.{Candidate}
 use Rattle.daa_config.specs.declared.level.Level.{Level}
 use Rattle.daa_config.specs.Settings.{rates_of}
@@ -17,6 +16,7 @@ use Rattle.daa_legs.specs.Branch.{FliesAs, lead_of}
 use Rattle.daa_legs.specs.Table.{IsBranchOf}
 use Rattle.daa_legs.specs.OwnLeg.{own_leg, place_on, IsOwnLegInRange}
 use Rattle.daa_legs.specs.Relative.{relative_for}
+use Rattle.daa_legs.specs.Violating.{ViolatesBy}
 use Rattle.daa_legs.specs.Meeting.{ViolatesOn}
 use Rattle.daa_meet.proofs.Keeping.{kept_is, kept-in_range}
 use Rattle.daa_recovery.specs.OutlookState.{OutlookState}
@@ -68,11 +68,11 @@ module _ (p : OutlookState) where
 -- a test of a leg at one level
 pub before_tested : (p : OutlookState) (candidate : Candidate) (aircraft : Traffic) (level : Level) (k : ℕ) (leg : OwnLeg) (seen : Leg) (b : Bool)
     → leg ≡ own_leg p.picture.own (rates_of p.settings) candidate k → seen ≡ relative_for 1 leg aircraft k
-    → IsTrue b ↔ ((k < level.lookahead) × HoldsSometime seen.secs (Violates seen level.volume))
+    → IsTrue b ↔ ((k < level.lookahead) × HoldsSometime seen.secs (ViolatesBy aircraft k seen level.volume))
     → IsTrue b ↔ ((k < level.lookahead) × ViolatesOn p.settings p.picture.own candidate aircraft level.volume k)
 unfolding relative_for
 before_tested p candidate aircraft level k leg seen b e r h =
-    subst (λ (l : Leg). IsTrue b ↔ ((k < level.lookahead) × HoldsSometime l.secs (Violates l level.volume))) (r ∙ ap (λ (l : OwnLeg). relative_for 1 l aircraft k) e) h
+    subst (λ (l : Leg). IsTrue b ↔ ((k < level.lookahead) × HoldsSometime l.secs (ViolatesBy aircraft k l level.volume))) (r ∙ ap (λ (l : OwnLeg). relative_for 1 l aircraft k) e) h
 
 -- a walk that ended too early ended in a cylinder
 pub walked_struck : (p : OutlookState) (side : Side) (upto : ℕ) → IsSide p side → (side.struck ≡ false → upto ≤ side.walked) → side.walked < upto → IsNear p side.lead side.walked

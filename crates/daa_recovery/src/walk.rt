@@ -4,20 +4,21 @@
 ghost use Rattle.std.specs.Prelude.{◌≡◌, ◌↔◌, ◌⊎◌, ◌+◌, ◌<◌, ◌≤◌, IsTrue, false};
 ghost use Rattle.daa_fixed.specs.Leg.{IsLegInRange};
 ghost use Rattle.daa_fixed.specs.Time.{HoldsSometime};
-ghost use Rattle.daa_taumod.specs.Volume.{IsVolumeInRange, Violates};
+ghost use Rattle.daa_taumod.specs.Volume.{IsVolumeInRange};
 ghost use Rattle.daa_config.specs.Settings.{rates_of};
 ghost use Rattle.daa_state.specs.InRange.{IsTrafficInRange};
 ghost use Rattle.daa_legs.specs.OwnLeg.{own_leg, IsOwnLegInRange};
 ghost use Rattle.daa_legs.specs.Meeting.{ViolatesOn};
+ghost use Rattle.daa_legs.specs.Violating.{ViolatesBy};
 ghost use Rattle.daa_recovery.specs.Inside.Legs.{IsClosedOn, IsClosed, IsNear, IsLastBefore};
 ghost use Rattle.daa_recovery.specs.Inside.Sides.{IsSide};
 
 use crate::outlook::Outlook;
 use crate::side::Side;
 use daa_config::{Candidate, Level};
-use daa_detect::is_hit;
 use daa_fixed::Leg;
 use daa_legs::{OwnLeg, relative};
+use daa_meet::violates_on;
 use daa_state::Traffic;
 
 impl<'a> Outlook<'a> {
@@ -99,7 +100,7 @@ impl<'a> Outlook<'a> {
         ensures { IsTrue result ↔ ViolatesOn self.now.settings self.now.picture.own candidate
             aircraft.now self.now.cylinder k }
     {
-        is_hit(&relative(leg, aircraft, k), self.cylinder)
+        violates_on(&relative(leg, aircraft, k), self.cylinder, aircraft, k)
     }
 
     /// Whether some aircraft violates a level that closes on leg `k`, before the level's lookahead.
@@ -130,7 +131,7 @@ impl<'a> Outlook<'a> {
         let seen = relative(leg, aircraft, k);
         for l in self.config.resolve()..self.config.levels() + 1 {
             let level = self.config.level(l);
-            if violates_before(&seen, k, level) {
+            if violates_before(&seen, aircraft, k, level) {
                 return true;
             }
         }
@@ -140,11 +141,13 @@ impl<'a> Outlook<'a> {
 
 /// Whether what an aircraft sees of leg `k` violates the level, and the leg is before the level's
 /// lookahead.
-fn violates_before(seen: &Leg, k: u32, level: &Level) -> bool
+fn violates_before(seen: &Leg, aircraft: &Traffic, k: u32, level: &Level) -> bool
     requires seen { IsLegInRange seen.now }
+    requires aircraft { IsTrafficInRange aircraft.now }
+    requires k { k < 180 }
     requires level { IsVolumeInRange level.now.volume }
     ensures { IsTrue result ↔ ((k < level.now.lookahead)
-        × HoldsSometime seen.now.secs (Violates seen.now level.now.volume)) }
+        × HoldsSometime seen.now.secs (ViolatesBy aircraft.now k seen.now level.now.volume)) }
 {
-    k < level.lookahead && is_hit(seen, &level.volume)
+    k < level.lookahead && violates_on(seen, &level.volume, aircraft, k)
 }

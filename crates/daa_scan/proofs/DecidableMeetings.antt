@@ -1,52 +1,23 @@
--- What is met, and what is violated, can be decided.
-use Rattle.std.proofs.Common.{◌≡◌, ◌⊎◌, inl, inr, arith, ℕ, ◌<◌, Some, None, pos}
+-- What is met can be decided.
+use Rattle.std.proofs.Common.{◌≡◌, ◌⊎◌, inl, inr, ℕ, Some, None}
 use Rattle.std.specs.Prelude.{slice_get}
 use Rattle.daa_config.specs.declared.candidate.Candidate.{Candidate}
-use Rattle.daa_config.specs.declared.candidate.Candidate.TheVariants.{Hold}
 use Rattle.daa_config.specs.declared.level.Level.{Level}
 use Rattle.daa_config.specs.Candidates.{candidates_of}
-use Rattle.daa_fixed.proofs.Decidable.{IsDecidable, by_test, as_decided}
+use Rattle.daa_fixed.proofs.Decidable.{IsDecidable, as_decided}
 use Rattle.daa_config.specs.Settings.{Settings, IsAccepted, IsCandidateInRange, IsLevelAt}
 use Rattle.daa_state.specs.declared.word.Own.{Own}
 use Rattle.daa_state.specs.declared.word.Traffic.{Traffic}
 use Rattle.daa_state.specs.InRange.{IsOwnInRange, IsTrafficInRange, IsPictureInRange}
 use Rattle.daa_state.specs.Picture.{aircraft_of}
-use Rattle.daa_legs.specs.Meeting.{relative_leg, ViolatesOn, Meets}
-use Rattle.daa_legs.specs.Alerts.{Alerts, ViolatesNow}
-use Rattle.daa_legs.proofs.AtLevel.{looked, nothing, level_at, meets_at, alerts_at, violates_now_at}
+use Rattle.daa_legs.specs.Meeting.{Meets}
+use Rattle.daa_legs.proofs.AtLevel.{looked, nothing, level_at, meets_at}
 use Rattle.daa_scan.specs.SceneState.{SceneState, MeetsAt}
-use Rattle.daa_meet.specs.Trials.{is_violated, is_violated_sometime, is_met_within}
 use Rattle.daa_scan.proofs.ListedCandidates.{listed}
-use Rattle.daa_meet.proofs.Deciding.{violated_is}
-use Rattle.daa_meet.proofs.Meetings.{on_is, within_is}
+use Rattle.daa_meet.proofs.Meetings.{within_decided}
 use Rattle.daa_scan.proofs.Masking.{at_place, met_at}
 
 module _ (settings : Settings) (own : Own) (aircraft : Traffic) (a : IsAccepted settings) (o : IsOwnInRange own) (t : IsTrafficInRange aircraft) where
-  pub on_decided : (l : ℕ) (level : Level) → IsLevelAt settings l level → (k : ℕ) → k < level.alert → IsDecidable (ViolatesOn settings own Hold aircraft level.volume k)
-  on_decided l level at k h =
-      let r = a.level l level at in
-      let short = r.alert_most in
-      by_test (is_violated_sometime (relative_leg settings own Hold aircraft k) level.volume) (on_is settings own Hold aircraft a o tt t level.volume r.volume k (omega arith))
-
-  pub alerts_decided : (l : ℕ) → IsDecidable (Alerts settings own aircraft l)
-  alerts_decided l = go (level_at settings l)
-    where
-      go : ((level : Level) × IsLevelAt settings l level) ⊎ ((level : Level) → IsLevelAt settings l level → ⊥) → IsDecidable (Alerts settings own aircraft l)
-      go (inl (level, at)) =
-          let r = a.level l level at in
-          as_decided (alerts_at settings own aircraft l level at) (by_test (is_met_within settings own Hold aircraft level.volume level.alert)
-          (within_is settings own Hold aircraft a o tt t level.volume r.volume level.alert r.alert_most))
-      go (inr none) = inr (λ m. none m.level m.there)
-
-  pub now_decided : (l : ℕ) → IsDecidable (ViolatesNow settings own aircraft l)
-  now_decided l = go (level_at settings l)
-    where
-      go : ((level : Level) × IsLevelAt settings l level) ⊎ ((level : Level) → IsLevelAt settings l level → ⊥) → IsDecidable (ViolatesNow settings own aircraft l)
-      go (inl (level, at)) =
-          as_decided (violates_now_at settings own aircraft l level at)
-          (by_test (is_violated (relative_leg settings own Hold aircraft 0) level.volume (pos 0) (pos 1)) (violated_is (relative_leg settings own Hold aircraft 0) level.volume (pos 0) (pos 1)))
-      go (inr none) = inr (λ m. none m.level m.there)
-
   pub meets_decided : (candidate : Candidate) → IsCandidateInRange candidate → (l : ℕ) → IsDecidable (Meets settings own candidate aircraft l)
   meets_decided candidate h l = go (level_at settings l)
     where
@@ -54,8 +25,7 @@ module _ (settings : Settings) (own : Own) (aircraft : Traffic) (a : IsAccepted 
       go (inl (level, at)) =
           let r = a.level l level at in
           as_decided (meets_at settings own aircraft l level at candidate)
-          (by_test (is_met_within settings own candidate aircraft level.volume level.lookahead)
-          (within_is settings own candidate aircraft a o h t level.volume r.volume level.lookahead r.lookahead_most))
+          (within_decided settings own candidate aircraft a o h t level.volume r.volume level.lookahead r.lookahead_most)
       go (inr none) = inr (λ m. none m.level m.there)
 
 module _ (s : SceneState) (a : IsAccepted s.settings) (p : IsPictureInRange s.picture) where

@@ -16,6 +16,7 @@ use Rattle.daa_config.proofs.GridLemmas.{value_there}
 use Rattle.daa_config.proofs.CandidateLemmas.{candidate_at, hold_first, in_range-to, kind_within}
 use Rattle.daa_state.specs.declared.word.Own.{Own}
 use Rattle.daa_state.specs.declared.word.Traffic.{Traffic}
+use Rattle.daa_legs.specs.Errors.{are_exact}
 use Rattle.daa_legs.specs.Meeting.{MeetsWithin, Meets}
 use Rattle.daa_fixed.specs.Mask.{HasLevel}
 use Rattle.daa_legs.proofs.AtLevel.{meets_at, one_level}
@@ -52,17 +53,26 @@ level_before settings l level at two =
     (slice_index_or settings.levels (l - 1 - 1) level, record { numbered = omega (arith, two); there = slice_get-get_or settings.levels (l - 1 - 1) level (omega (arith, w)) })
 
 -- what meets a level meets the one in which it lies
-pub meets_before : (settings : Settings) (own : Own) (candidate : Candidate) (aircraft : Traffic) (l : ℕ) (level : Level) → IsLevelAt settings l level → IsNestedAt settings l level
-    → Meets settings own candidate aircraft l → Meets settings own candidate aircraft (l - 1)
+pub meets_before : (settings : Settings) (own : Own) (candidate : Candidate) (aircraft : Traffic) (l : ℕ) (level : Level) → IsLevelAt settings l level
+    → IsNestedAt settings aircraft l level → Meets settings own candidate aircraft l → Meets settings own candidate aircraft (l - 1)
 meets_before settings own candidate aircraft l level at nested m =
     let b = level_before settings l level at nested.some in
     (meets_at settings own aircraft (l - 1) b.0 b.1 candidate).0
-    (meets_outer settings own candidate aircraft level b.0 (nested.within b.0 b.1) ((meets_at settings own aircraft l level at candidate).1 m))
+    (meets_outer settings own candidate aircraft level b.0 nested.exact (nested.within b.0 b.1) ((meets_at settings own aircraft l level at candidate).1 m))
+
+-- a test of the bounds that is not turned down
+pub exact_else : (b exact : Bool) → b ≡ exact → IsTrue b → exact ≡ true
+exact_else b exact e t = sym e ∙ t
+
+-- and one that is
+pub exact_not : (b exact : Bool) → b ≡ exact → b ≡ false → exact ≡ false
+exact_not b exact e f = sym e ∙ f
 
 -- a level lies within the one before it
-pub nested_at : (settings : Settings) (l : ℕ) (inner outer : Level) → 2 ≤ l → IsLevelAt settings l inner → IsLevelAt settings (l - 1) outer → LiesWithin inner outer
-    → (level : Level) → IsLevelAt settings l level → IsNestedAt settings l level
-nested_at settings l inner outer two a b within level at = record {
+pub nested_at : (settings : Settings) (aircraft : Traffic) (l : ℕ) (inner outer : Level) → are_exact aircraft.bounds ≡ true → 2 ≤ l → IsLevelAt settings l inner
+    → IsLevelAt settings (l - 1) outer → LiesWithin inner outer → (level : Level) → IsLevelAt settings l level → IsNestedAt settings aircraft l level
+nested_at settings aircraft l inner outer exact two a b within level at = record {
+  exact = exact;
   some = two;
   within = λ other there. subst (λ (x : Level). LiesWithin x other) (one_level settings l inner level a at)
       (subst (λ (x : Level). LiesWithin inner x) (one_level settings (l - 1) outer other b there) within);

@@ -19,8 +19,8 @@ use Rattle.daa_legs.specs.Meeting.{Meets}
 use Rattle.daa_scan.specs.SceneState.{SceneState, MeetsAt}
 use Rattle.daa_scan.specs.Packed.{mask_of, entry_for, entry_at}
 use Rattle.daa_scan.proofs.ListedCandidates.{listed}
-use Rattle.daa_meet.specs.Trials.{is_met_within}
-use Rattle.daa_meet.proofs.Meetings.{within_is}
+use Rattle.daa_meet.proofs.Told.{is_met_within}
+use Rattle.daa_meet.proofs.Told.{within_is}
 
 -- ---- bits
 pub same_bits : (n x y : ℕ) → x < 2 ^ n → y < 2 ^ n → ((i : ℕ) → bit_at x i ≡ bit_at y i) → x ≡ y

@@ -1,5 +1,5 @@
 -- What meets an inner level meets the outer one.
-use Rattle.std.proofs.Common.{[], ◌∷◌, ℕ, ◌≤◌, ◌⊎◌, inl, inr, sym, subst, arith, ℤ, pos, ◌+ℤ◌, ◌-ℤ◌, ◌*ℤ◌, ◌≤ℤ◌, ◌<ℤ◌, neg_ℤ}
+use Rattle.std.proofs.Common.{[], ◌∷◌, ℕ, ◌≡◌, ◌≤◌, ◌⊎◌, inl, inr, true, sym, subst, arith, ℤ, pos, ◌+ℤ◌, ◌-ℤ◌, ◌*ℤ◌, ◌≤ℤ◌, ◌<ℤ◌, neg_ℤ}
 use Rattle.std.proofs.lemmas.Int.{ints, by_lt_z}
 use Rattle.daa_fixed.proofs.Ring.{mul_nonneg, ring, #, lit, ⊝, ◌⊕◌, ◌⊖◌, ◌⊗◌}
 use Rattle.daa_fixed.proofs.Integers.{mul_le, mul_le_mul, by_rest, rest, le_trans_ℤ, sum_nonneg}
@@ -17,7 +17,9 @@ use Rattle.daa_config.specs.declared.level.Level.{Level}
 use Rattle.daa_config.specs.Settings.{Settings}
 use Rattle.daa_state.specs.declared.word.Own.{Own}
 use Rattle.daa_state.specs.declared.word.Traffic.{Traffic}
+use Rattle.daa_legs.specs.Errors.{are_exact}
 use Rattle.daa_legs.specs.Meeting.{ViolatesOn, MeetsWithin}
+use Rattle.daa_legs.proofs.Exactness.{exact_leg}
 use Rattle.daa_legs.proofs.Stretches.{flown_on, place_later}
 use Rattle.daa_scan.specs.Inside.Nesting.{LiesWithin}
 
@@ -136,19 +138,21 @@ module _ (leg : Leg) (inner outer : Volume) (n d : ℤ) (d1 : pos 1 ≤ℤ d) (d
   violates_outer h v = violates_grows outer.model (violates_by_model inner.model outer.model leg inner n d h d1 v)
 
 -- on a leg
-pub hit_outer : (settings : Settings) (own : Own) (candidate : Candidate) (aircraft : Traffic) (inner outer : Level) (k : ℕ) → LiesWithin inner outer
+pub hit_outer : (settings : Settings) (own : Own) (candidate : Candidate) (aircraft : Traffic) (inner outer : Level) (k : ℕ) → are_exact aircraft.bounds ≡ true → LiesWithin inner outer
     → ViolatesOn settings own candidate aircraft inner.volume k → ViolatesOn settings own candidate aircraft outer.volume k
-hit_outer settings own candidate aircraft inner outer k h x = record {
-  num = x.num;
-  den = x.den;
-  time = x.time;
-  holds = violates_outer _ inner.volume outer.volume x.num x.den x.time.fraction h.dthr h.zthr h.tthr h.tcoa h.model x.holds;
-}
+hit_outer settings own candidate aircraft inner outer k exact h v =
+    let x = (exact_leg settings own candidate aircraft inner.volume exact k).0 v in
+    (exact_leg settings own candidate aircraft outer.volume exact k).1 (record {
+      num = x.num;
+      den = x.den;
+      time = x.time;
+      holds = violates_outer _ inner.volume outer.volume x.num x.den x.time.fraction h.dthr h.zthr h.tthr h.tcoa h.model x.holds;
+    })
 
-pub meets_outer : (settings : Settings) (own : Own) (candidate : Candidate) (aircraft : Traffic) (inner outer : Level) → LiesWithin inner outer
+pub meets_outer : (settings : Settings) (own : Own) (candidate : Candidate) (aircraft : Traffic) (inner outer : Level) → are_exact aircraft.bounds ≡ true → LiesWithin inner outer
     → MeetsWithin settings own candidate aircraft inner.volume inner.lookahead → MeetsWithin settings own candidate aircraft outer.volume outer.lookahead
-meets_outer settings own candidate aircraft inner outer h m = record {
+meets_outer settings own candidate aircraft inner outer exact h m = record {
   leg = m.leg;
   before = omega (arith, m.before, h.lookahead);
-  violates = hit_outer settings own candidate aircraft inner outer m.leg h m.violates;
+  violates = hit_outer settings own candidate aircraft inner outer m.leg exact h m.violates;
 }

@@ -1,6 +1,6 @@
 -- The numbers below n at which a test is true, and the aircraft in reach.
 use Rattle.std.proofs.Common.{◌≡◌, ◌↔◌, inl, inr, ◌⊎◌, refl, sym, ap, subst, ◌∙◌, arith, ⊎_elim, ℕ, zero, suc, ◌+◌, ◌-◌, ◌<◌, ◌≤◌, Bool, true, false, List, [], ◌∷◌, ◌++◌, length, Option, Some, None}
-use Rattle.std.specs.Prelude.{IsTrue, slice_get, slice_index, Contains, if◌then◌else◌}
+use Rattle.std.specs.Prelude.{IsTrue, not, ◌||◌, slice_get, slice_index, Contains, if◌then◌else◌}
 use Rattle.std.specs.List.{list_any}
 use Rattle.std.proofs.lemmas.Bool.{cases_lt, cases_Bool, false_from_ne_true}
 use Rattle.std.proofs.lemmas.List.{length-append, get_or_append_left, get_or-append-add}
@@ -10,7 +10,8 @@ use Rattle.daa_config.specs.Settings.{Settings}
 use Rattle.daa_state.specs.declared.word.Own.{Own}
 use Rattle.daa_state.specs.declared.word.Traffic.{Traffic}
 use Rattle.daa_state.specs.Picture.{aircraft_of}
-use Rattle.daa_scan.specs.Reach.{place_now, horizontal_speed, vertical_speed, CanEnter, IsInReach, IsInReachAt}
+use Rattle.daa_legs.specs.Errors.{are_exact}
+use Rattle.daa_scan.specs.Reach.{place_now, horizontal_speed, vertical_speed, CanEnter, IsNearEnough, IsInReach, IsInReachAt}
 use Rattle.daa_scan.specs.SceneState.{SceneState}
 use Rattle.daa_scan.specs.Units.{AreInReach}
 use Rattle.daa_scan.specs.Packed.{enters, is_reached, is_reached_at, numbers_below, places_in_reach}
@@ -144,14 +145,21 @@ module _ (settings : Settings) (own : Own) (aircraft : Traffic) where
       first zero l t c = inl (subst (λ (x : Level). CanEnter x (place_now own aircraft) (horizontal_speed settings own aircraft) (vertical_speed settings own aircraft)) (sym (same_Some level l t)) c)
       first (suc place) l t c = inr (record { place = place; level = l; there = t; enters = c })
 
-  in_reach_is : IsTrue (list_any (enters settings own aircraft) settings.levels) ↔ IsInReach settings own aircraft
-  in_reach_is =
+  near_is : IsTrue (list_any (enters settings own aircraft) settings.levels) ↔ IsNearEnough settings own aircraft
+  near_is =
       let o = one_is settings.levels in (
         (λ t. let x = o.0 t in
             let back : x.place + 1 - 1 ≡ x.place = omega arith in
             record { number = x.place + 1; level = x.level; there = record { numbered = omega arith; there = ap (slice_get settings.levels) back ∙ x.there }; enters = x.enters }),
         (λ r. o.1 (record { place = r.number - 1; level = r.level; there = r.there.there; enters = r.enters })),
       )
+
+  unsure_is : (exact : Bool) → IsTrue (not exact) ↔ (exact ≡ false)
+  unsure_is true = ((λ t. absurd (cc t)), (λ e. absurd (cc e)))
+  unsure_is false = ((λ _. refl), (λ _. refl))
+
+  in_reach_is : IsTrue (not (are_exact aircraft.bounds) || list_any (enters settings own aircraft) settings.levels) ↔ IsInReach settings own aircraft
+  in_reach_is = either_is (not (are_exact aircraft.bounds)) (list_any (enters settings own aircraft) settings.levels) (unsure_is (are_exact aircraft.bounds)) near_is
 
 module _ (s : SceneState) where
   by_item : (at : ℕ) (o : Option Traffic) → slice_get (aircraft_of s.picture) at ≡ o → IsTrue (is_reached s.settings s.picture.own o) ↔ IsInReachAt s at

@@ -1,5 +1,5 @@
 -- No candidate gets to an aircraft that is out of reach.
-use Rattle.std.proofs.Common.{[], ◌∷◌, ◌≡◌, ℕ, zero, suc, ◌+◌, ◌<◌, refl, sym, subst, arith, ℤ, pos, negsuc, neg_ℤ, ◌+ℤ◌, ◌*ℤ◌, ◌-ℤ◌, ◌≤ℤ◌, unsigned_abs}
+use Rattle.std.proofs.Common.{[], ◌∷◌, ◌≡◌, ℕ, zero, suc, ◌+◌, ◌<◌, Bool, true, false, inl, inr, refl, sym, subst, arith, ℤ, pos, negsuc, neg_ℤ, ◌+ℤ◌, ◌*ℤ◌, ◌-ℤ◌, ◌≤ℤ◌, unsigned_abs}
 use Rattle.std.proofs.lemmas.Int.{ints}
 use Rattle.daa_fixed.proofs.Ring.{mul_nonneg, ring, #, lit, ⊝, ◌⊕◌, ◌⊖◌, ◌⊗◌}
 use Rattle.daa_fixed.proofs.Integers.{by_rest, mul_le_mul}
@@ -21,7 +21,9 @@ use Rattle.daa_state.specs.InRange.{IsOwnInRange}
 use Rattle.daa_legs.specs.Motion.{velocity_on}
 use Rattle.daa_legs.specs.OwnLeg.{place_on}
 use Rattle.daa_legs.specs.Relative.{relative_for}
+use Rattle.daa_legs.specs.Errors.{are_exact}
 use Rattle.daa_legs.specs.Meeting.{relative_leg, Meets}
+use Rattle.daa_legs.proofs.Exactness.{exact_leg}
 use Rattle.daa_scan.proofs.Speeds.{top_of, rise_of, east-top, north-top, up-top, length-top}
 use Rattle.daa_scan.specs.Reach.{size_of, place_now, horizontal_speed, vertical_speed, IsInReach}
 use Rattle.daa_scan.proofs.Nearing.{east_near, north_near, up_near}
@@ -179,16 +181,20 @@ module _ (settings : Settings) (own : Own) (candidate : Candidate) (aircraft : T
 -- what a listed candidate meets is in reach
 pub met_in_reach : (settings : Settings) (own : Own) (candidate : Candidate) (aircraft : Traffic) → IsAccepted settings → IsOwnInRange own
     → IsCandidateOf settings candidate → (l : ℕ) → Meets settings own candidate aircraft l → IsInReach settings own aircraft
-met_in_reach settings own candidate aircraft settled o listed l m =
-    let h = m.meets in
-    let v = h.violates in
-    record {
-      number = l;
-      level = m.level;
-      there = m.there;
-      enters = record {
-        east = east_reached settings own candidate aircraft settled o listed m.level h.leg h.before v.num v.den v.time v.holds.horizontal;
-        north = north_reached settings own candidate aircraft settled o listed m.level h.leg h.before v.num v.den v.time v.holds.horizontal;
-        up = up_reached settings own candidate aircraft settled o listed m.level h.leg h.before v.num v.den v.time v.holds.vertical;
-      };
-    }
+met_in_reach settings own candidate aircraft settled o listed l m = go (are_exact aircraft.bounds) refl
+  where
+    go : (exact : Bool) → are_exact aircraft.bounds ≡ exact → IsInReach settings own aircraft
+    go false e = inl e
+    go true e =
+        let h = m.meets in
+        let v = (exact_leg settings own candidate aircraft m.level.volume e h.leg).0 h.violates in
+        inr (record {
+          number = l;
+          level = m.level;
+          there = m.there;
+          enters = record {
+            east = east_reached settings own candidate aircraft settled o listed m.level h.leg h.before v.num v.den v.time v.holds.horizontal;
+            north = north_reached settings own candidate aircraft settled o listed m.level h.leg h.before v.num v.den v.time v.holds.horizontal;
+            up = up_reached settings own candidate aircraft settled o listed m.level h.leg h.before v.num v.den v.time v.holds.vertical;
+          };
+        })

@@ -1,5 +1,5 @@
 -- What the present flight tells of a kind's candidates: the seconds in which they may violate a volume.
-use Rattle.std.proofs.Common.{◌≡◌, ℕ, ◌+◌, ◌-◌, ◌*◌, ◌/◌, ◌<◌, ◌≤◌, inl, inr, sym, subst, arith, nat_abs, le-div_iff_mul-le, ℤ, pos, negsuc, ◌+ℤ◌, ◌-ℤ◌, ◌*ℤ◌, ◌≤ℤ◌, ◌∷◌, []}
+use Rattle.std.proofs.Common.{◌≡◌, ℕ, ◌+◌, ◌-◌, ◌*◌, ◌/◌, ◌<◌, ◌≤◌, inl, inr, true, sym, subst, arith, nat_abs, le-div_iff_mul-le, ℤ, pos, negsuc, ◌+ℤ◌, ◌-ℤ◌, ◌*ℤ◌, ◌≤ℤ◌, ◌∷◌, []}
 use Rattle.std.proofs.lemmas.Int.{ints}
 use Rattle.daa_fixed.proofs.Integers.{mul_le, le_trans_ℤ, cancel_le}
 use Rattle.daa_fixed.proofs.Ring.{ring, #, ◌⊖◌, ◌⊗◌}
@@ -17,15 +17,17 @@ use Rattle.daa_config.specs.declared.level.Level.{Level}
 use Rattle.daa_config.specs.Settings.{Settings, IsLevelInRange, rates_of}
 use Rattle.daa_state.specs.declared.word.Own.{Own}
 use Rattle.daa_state.specs.declared.word.Traffic.{Traffic}
+use Rattle.daa_legs.specs.Errors.{are_exact}
 use Rattle.daa_legs.specs.Meeting.{ViolatesOn}
 use Rattle.daa_legs.specs.OwnLeg.{own_leg}
 use Rattle.daa_legs.specs.Relative.{relative_for}
 use Rattle.daa_legs.proofs.SharedWords.{in_height}
 use Rattle.daa_legs.specs.Inside.Shared.{in_plane}
+use Rattle.daa_legs.proofs.Exactness.{exact_leg}
 use Rattle.daa_legs.proofs.Shares.{KeepsHeights, KeepsWay, held_in_height, met_in_plane, track-keeps, speed-keeps, climb-keeps, height-keeps}
 use Rattle.daa_legs.proofs.Stretches.{out_second}
 use Rattle.daa_scan.specs.declared.refusal.Seconds.{Seconds}
-use Rattle.daa_scan.specs.Inside.Refusal.{IsSecondOf, AreSecondsInHeight, AreSecondsOf, AreWindowsOf}
+use Rattle.daa_scan.specs.Inside.Refusal.{IsSecondOf, AreSecondsInHeight, AreSecondsOf, AreWindowsOf, window_of}
 
 -- ---- the seconds of the vertical window
 -- the first second that ends at n/d or after it, and the last that begins at n/d or before it
@@ -94,33 +96,55 @@ module _ (settings : Settings) (own : Own) (aircraft : Traffic) (volume : Volume
   vertically n d (inl x) = inl x
   vertically n d (inr x) = inr (record { nearing = x.nearing; soon = x.soon })
 
-  pub by_heights : m ≤ 180 → ((z : ℤ) → KeepsHeights own (rates_of settings) (candidate_to kind z)) → AreSecondsInHeight leg volume seconds → AreSecondsOf settings own aircraft kind volume m seconds
-  by_heights short keeps only = record {
+  pub by_heights : are_exact aircraft.bounds ≡ true → m ≤ 180 → ((z : ℤ) → KeepsHeights own (rates_of settings) (candidate_to kind z)) → AreSecondsInHeight leg volume seconds
+      → AreSecondsOf settings own aircraft kind volume m seconds
+  by_heights exact short keeps only = record {
     before = λ z k b lt v. let s = second z k (omega (arith, b, short)) v in omega (arith, lt, s.from);
     after = λ z k b ge v. let s = second z k b v in omega (arith, ge, s.upto);
   }
     where
       second : (z : ℤ) (k : ℕ) → k < 180 → ViolatesOn settings own (candidate_to kind z) aircraft volume k → IsSecondOf seconds k
-      second z k b v = only k v.num v.den b v.time (subst (λ (l : Leg). ViolatesVertically l volume (v.num +ℤ pos k *ℤ v.den) v.den) (sym present)
+      second z k b x =
+          let v = (exact_leg settings own (candidate_to kind z) aircraft volume exact k).0 x in
+          only k v.num v.den b v.time (subst (λ (l : Leg). ViolatesVertically l volume (v.num +ℤ pos k *ℤ v.den) v.den) (sym present)
           (vertically (v.num +ℤ pos k *ℤ v.den) v.den (held_in_height settings own (candidate_to kind z) aircraft volume 180 (keeps z) k b v.num v.den v.time.fraction v.holds).vertical))
 
   in_way : HoldsSometime m (Violates (in_plane (relative_for m (own_leg own (rates_of settings) Hold 0) aircraft 0)) volume) → HoldsSometime leg.secs (Violates (in_plane leg) volume)
   unfolding relative_for
   in_way h = subst (λ (l : Leg). HoldsSometime l.secs (Violates (in_plane l) volume)) (sym present) h
 
-  pub by_way : ((z : ℤ) → KeepsWay own (rates_of settings) (candidate_to kind z)) → (HoldsSometime leg.secs (Violates (in_plane leg) volume) → seconds.begin ≡ 0) → seconds.end ≡ 180
-      → AreSecondsOf settings own aircraft kind volume m seconds
-  by_way keeps all end = record {
-    before = λ z k b lt v. let e = all (in_way (met_in_plane settings own (candidate_to kind z) aircraft volume m (keeps z) (record { leg = k; before = b; violates = v }))) in omega (arith, lt, e);
+  pub by_way : are_exact aircraft.bounds ≡ true → ((z : ℤ) → KeepsWay own (rates_of settings) (candidate_to kind z))
+      → (HoldsSometime leg.secs (Violates (in_plane leg) volume) → seconds.begin ≡ 0) → seconds.end ≡ 180 → AreSecondsOf settings own aircraft kind volume m seconds
+  by_way exact keeps all end = record {
+    before = λ z k b lt v.
+        let e = all (in_way (met_in_plane settings own (candidate_to kind z) aircraft volume m exact (keeps z) (record { leg = k; before = b; violates = v }))) in omega (arith, lt, e);
     after = λ z k b ge v. omega (arith, b, ge, end);
   }
 
 -- the seconds of each kind at a level
 module _ (settings : Settings) (own : Own) (aircraft : Traffic) (level : Level) (in_range : IsLevelInRange level) (leg : Leg)
     (present : leg ≡ relative_for level.lookahead (own_leg own (rates_of settings) Hold 0) aircraft 0) (turns climbs : Seconds)
-    (only : AreSecondsInHeight leg level.volume turns) (all : HoldsSometime leg.secs (Violates (in_plane leg) level.volume) → climbs.begin ≡ 0) (end : climbs.end ≡ 180) where
+    (only : AreSecondsInHeight leg level.volume turns) (all : HoldsSometime leg.secs (Violates (in_plane leg) level.volume) → climbs.begin ≡ 0) (end : climbs.end ≡ 180)
+    (exact : are_exact aircraft.bounds ≡ true) where
   pub all_windows : AreWindowsOf settings own aircraft level (record { turns = turns; climbs = climbs })
-  all_windows Track = by_heights settings own aircraft level.volume level.lookahead leg present Track turns in_range.lookahead_most (λ z. track-keeps own (rates_of settings) z) only
-  all_windows GroundSpeed = by_heights settings own aircraft level.volume level.lookahead leg present GroundSpeed turns in_range.lookahead_most (λ z. speed-keeps own (rates_of settings) z) only
-  all_windows VerticalSpeed = by_way settings own aircraft level.volume level.lookahead leg present VerticalSpeed climbs (λ z. climb-keeps own (rates_of settings) z) all end
-  all_windows Altitude = by_way settings own aircraft level.volume level.lookahead leg present Altitude climbs (λ z. height-keeps own (rates_of settings) z) all end
+  all_windows Track = by_heights settings own aircraft level.volume level.lookahead leg present Track turns exact in_range.lookahead_most (λ z. track-keeps own (rates_of settings) z) only
+  all_windows GroundSpeed = by_heights settings own aircraft level.volume level.lookahead leg present GroundSpeed turns exact in_range.lookahead_most (λ z. speed-keeps own (rates_of settings) z) only
+  all_windows VerticalSpeed = by_way settings own aircraft level.volume level.lookahead leg present VerticalSpeed climbs exact (λ z. climb-keeps own (rates_of settings) z) all end
+  all_windows Altitude = by_way settings own aircraft level.volume level.lookahead leg present Altitude climbs exact (λ z. height-keeps own (rates_of settings) z) all end
+
+-- each second is one of all
+pub every_window : (settings : Settings) (own : Own) (aircraft : Traffic) (level : Level) (all : Seconds) → all.begin ≡ 0 → all.end ≡ 180
+    → AreWindowsOf settings own aircraft level (record { turns = all; climbs = all })
+every_window settings own aircraft level all first last kind = of_kind kind
+  where
+    every : (k : Kind) → AreSecondsOf settings own aircraft k level.volume level.lookahead all
+    every k = record {
+      before = λ z j b lt v. absurd (omega (arith, lt, first));
+      after = λ z j b ge v. absurd (omega (arith, b, ge, last));
+    }
+
+    of_kind : (k : Kind) → AreSecondsOf settings own aircraft k level.volume level.lookahead (window_of (record { turns = all; climbs = all }) k)
+    of_kind Track = every Track
+    of_kind GroundSpeed = every GroundSpeed
+    of_kind VerticalSpeed = every VerticalSpeed
+    of_kind Altitude = every Altitude

@@ -172,12 +172,12 @@ module _ (round : Round) (kind : Kind) (upper : Bool) (n : ℕ) where
       (one_level (settings_in round) round.l level round.level at round.known.there) v)
 
   -- where it lies within the one before, what is clear at that one
-  pub clear_within : IsNestedAt (settings_in round) round.l round.level → AreClear (settings_in round) (own_in round) (aircraft_in round) kind upper (round.l - 1) n
+  pub clear_within : IsNestedAt (settings_in round) (aircraft_in round) round.l round.level → AreClear (settings_in round) (own_in round) (aircraft_in round) kind upper (round.l - 1) n
       → AreClear (settings_in round) (own_in round) (aircraft_in round) kind upper round.l n
   clear_within nested below = clear_walked (λ z j b v.
       let outer = level_before (settings_in round) round.l round.level round.known.there nested.some in
       below outer.0 outer.1 z j b (hit_outer (settings_in round) (own_in round) (lead_of (own_in round) (candidate_to kind z) upper) (aircraft_in round) round.level outer.0 j
-      (nested.within outer.0 outer.1) v))
+      nested.exact (nested.within outer.0 outer.1) v))
 
 -- what a side's trail answers of a candidate that leaves past what it is sure of
 module _ (round : Round) (kind : Kind) (trails : Trails) (h : AreTrailsOf round kind trails) (short : round.level.lookahead ≤ 180) (candidate : Candidate) (branch : Branch)

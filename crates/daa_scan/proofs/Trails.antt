@@ -7,7 +7,6 @@ use Rattle.std.specs.Prelude.{IsTrue, slice_index_or}
 use Rattle.daa_fixed.specs.declared.Leg.{Leg}
 use Rattle.daa_fixed.specs.Time.{HoldsSometime}
 use Rattle.daa_taumod.specs.declared.Volume.{Volume}
-use Rattle.daa_taumod.specs.Volume.{Violates}
 use Rattle.daa_config.specs.declared.candidate.Candidate.{Candidate}
 use Rattle.daa_config.specs.declared.config.Rates.{Rates}
 use Rattle.daa_config.specs.Settings.{Settings, AreRatesInRange, IsCandidateInRange, rates_of}
@@ -23,6 +22,7 @@ use Rattle.daa_legs.specs.Table.{IsBranchOf}
 use Rattle.daa_legs.specs.Trunk.{AreLegsOf}
 use Rattle.daa_legs.specs.OwnLeg.{own_leg, place_on}
 use Rattle.daa_legs.specs.Runs.{IsRunOf, IsOwnRunInRange, MeetsBetween}
+use Rattle.daa_legs.specs.Violating.{ViolatesBy}
 use Rattle.daa_legs.specs.Meeting.{ViolatesOn, MeetsWithin}
 use Rattle.daa_legs.proofs.Branching.{place_alike, by_branch}
 use Rattle.daa_legs.proofs.Places.{velocity_on-below, place_on-below}
@@ -57,8 +57,8 @@ rest_velocity own rates candidate k velocity o r h e on = subst (λ (v : Solid).
 pub rest_tested : (settings : Settings) (own : Own) (candidate : Candidate) (aircraft : Traffic) (volume : Volume) (k secs m : ℕ) (rest : OwnLeg) (rel : Leg) (hit : Bool)
     → rest.place ≡ place_on own (rates_of settings) candidate k → rest.velocity ≡ velocity_there own candidate → FliesOn own (rates_of settings) candidate k → k + secs ≡ m
     → (IsRunOf own (rates_of settings) candidate k (record { place = rest.place; velocity = rest.velocity; secs = secs })
-    → HoldsSometime rel.secs (Violates rel volume) ↔ MeetsBetween settings own candidate aircraft volume k (k + secs))
-    → IsTrue hit ↔ HoldsSometime rel.secs (Violates rel volume) → IsTrue hit ↔ MeetsBetween settings own candidate aircraft volume k m
+    → HoldsSometime rel.secs (ViolatesBy aircraft k rel volume) ↔ MeetsBetween settings own candidate aircraft volume k (k + secs))
+    → IsTrue hit ↔ HoldsSometime rel.secs (ViolatesBy aircraft k rel volume) → IsTrue hit ↔ MeetsBetween settings own candidate aircraft volume k m
 rest_tested settings own candidate aircraft volume k secs m rest rel hit p v on s seconds tests =
     let there = on.there k (omega arith) in
     kept_rest settings own candidate aircraft volume k secs m rest rel hit (λ i. record { place = p i; velocity = (v ∙ sym there) i }) on s seconds tests

@@ -1,6 +1,6 @@
 -- The words of the units in a form that can be computed. Units.antt defines them in the field's
 -- terms; here each question is answered by trying.
-use Rattle.std.specs.Prelude.{ℕ, zero, suc, ◌+◌, ◌*◌, ◌/◌, ◌%◌, pos, ◌+ℤ◌, ◌*ℤ◌, Bool, false, ◌&&◌, if◌then◌else◌, int_le, List, [], ◌∷◌, ◌++◌, length, slice_get, slice_index, Option, Some, None}
+use Rattle.std.specs.Prelude.{ℕ, zero, suc, ◌+◌, ◌*◌, ◌/◌, ◌%◌, pos, ◌+ℤ◌, ◌*ℤ◌, Bool, false, not, ◌&&◌, ◌||◌, if◌then◌else◌, int_le, List, [], ◌∷◌, ◌++◌, length, slice_get, slice_index, Option, Some, None}
 use Rattle.std.specs.List.{list_any}
 use Rattle.daa_config.specs.declared.candidate.Candidate.{Candidate}
 use Rattle.daa_config.specs.declared.level.Level.{Level}
@@ -10,7 +10,8 @@ use Rattle.daa_config.specs.Settings.{Settings}
 use Rattle.daa_state.specs.declared.word.Own.{Own}
 use Rattle.daa_state.specs.declared.word.Traffic.{Traffic}
 use Rattle.daa_state.specs.Picture.{aircraft_of}
-use Rattle.daa_meet.specs.Trials.{is_met_within}
+use Rattle.daa_legs.specs.Errors.{are_exact}
+use Rattle.daa_meet.proofs.Told.{is_met_within}
 use Rattle.daa_scan.specs.Reach.{size_of, place_now, horizontal_speed, vertical_speed}
 use Rattle.daa_scan.specs.SceneState.{SceneState}
 use Rattle.daa_scan.specs.Units.{group_count, index_in}
@@ -32,9 +33,9 @@ module _ (settings : Settings) (own : Own) where
       && (int_le (size_of (place_now own aircraft).flat.north) (pos level.volume.dthr +ℤ pos (level.volume.tthr + level.lookahead) *ℤ horizontal_speed settings own aircraft)
       && int_le (size_of (place_now own aircraft).up) (pos level.volume.zthr +ℤ pos (level.volume.tcoa + level.lookahead) *ℤ vertical_speed settings own aircraft))
 
-  -- the aircraft is near enough to be met at some level
+  -- the aircraft's report or the ownship's may err, or it is near enough to be met at some level
   unfoldable pub is_reached : Option Traffic → Bool
-  is_reached (Some aircraft) = list_any (enters aircraft) settings.levels
+  is_reached (Some aircraft) = not (are_exact aircraft.bounds) || list_any (enters aircraft) settings.levels
   is_reached None = false
 
 -- those of the numbers below n at which it is true, in order

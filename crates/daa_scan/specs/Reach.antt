@@ -1,5 +1,5 @@
 -- Which aircraft are near enough to be met at all: a test of their places now, which clears most of them at once.
-use Rattle.std.specs.Prelude.{ℕ, ℤ, pos, ◌+◌, ◌+ℤ◌, ◌*ℤ◌, ◌≤ℤ◌, ◌≡◌, unsigned_abs, slice_get, Some}
+use Rattle.std.specs.Prelude.{ℕ, ℤ, pos, ◌+◌, ◌+ℤ◌, ◌*ℤ◌, ◌≤ℤ◌, ◌≡◌, unsigned_abs, slice_get, Some, false, ◌⊎◌}
 use Rattle.std.specs.Int.{int_max}
 use Rattle.daa_fixed.specs.declared.Solid.{Solid}
 use Rattle.daa_fixed.specs.Leg.{minus}
@@ -10,6 +10,7 @@ use Rattle.daa_config.specs.Settings.{Settings, IsLevelAt}
 use Rattle.daa_state.specs.declared.word.Own.{Own}
 use Rattle.daa_state.specs.declared.word.Traffic.{Traffic}
 use Rattle.daa_state.specs.Picture.{aircraft_of}
+use Rattle.daa_legs.specs.Errors.{are_exact}
 use Rattle.daa_legs.specs.OwnLeg.{own_place}
 use Rattle.daa_legs.specs.Relative.{traffic_place}
 use Rattle.daa_scan.specs.SceneState.{SceneState, MeetsAt}
@@ -42,12 +43,16 @@ pub record CanEnter (level : Level) (place : Solid) (horizontal vertical : ℤ) 
   pub north : size_of place.flat.north ≤ℤ (pos level.volume.dthr +ℤ pos (level.volume.tthr + level.lookahead) *ℤ horizontal)
   pub up : size_of place.up ≤ℤ (pos level.volume.zthr +ℤ pos (level.volume.tcoa + level.lookahead) *ℤ vertical)
 
--- the aircraft is in reach: some level's volume can be entered
-pub record IsInReach (settings : Settings) (own : Own) (aircraft : Traffic) : Type 0 where
+-- some level's volume can be entered, as reported
+pub record IsNearEnough (settings : Settings) (own : Own) (aircraft : Traffic) : Type 0 where
   pub number : ℕ
   pub level : Level
   pub there : IsLevelAt settings number level
   pub enters : CanEnter level (place_now own aircraft) (horizontal_speed settings own aircraft) (vertical_speed settings own aircraft)
+
+-- the aircraft is in reach: some level's volume can be entered, or its report or the ownship's may err
+abbrev pub IsInReach : Settings → Own → Traffic → Type 0
+IsInReach settings own aircraft = (are_exact aircraft.bounds ≡ false) ⊎ IsNearEnough settings own aircraft
 
 -- the aircraft at the place `at` of the moment's list is in reach
 pub record IsInReachAt (s : SceneState) (at : ℕ) : Type 0 where

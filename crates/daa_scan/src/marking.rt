@@ -6,12 +6,12 @@ ghost use Rattle.std.specs.Prelude.{◌≡◌, ◌-◌, ◌<◌, ◌≤◌, ◌^
 ghost use Rattle.daa_fixed.specs.Leg.{IsLegInRange};
 ghost use Rattle.daa_fixed.specs.Mask.{HasLevel};
 ghost use Rattle.daa_fixed.specs.Time.{HoldsSometime};
-ghost use Rattle.daa_taumod.specs.Volume.{Violates};
 ghost use Rattle.daa_config.specs.Candidates.{start_of, values_of};
 ghost use Rattle.daa_config.specs.Settings.{IsLevelAt};
 ghost use Rattle.daa_config.specs.declared.candidate.Candidate.{Candidate};
 ghost use Rattle.daa_config.specs.declared.level.Level.{Level};
 ghost use Rattle.daa_legs.specs.declared.branch.Branch.{Branch};
+ghost use Rattle.daa_legs.specs.Violating.{ViolatesBy};
 ghost use Rattle.daa_state.specs.declared.word.Own.{Own};
 ghost use Rattle.daa_state.specs.declared.word.Traffic.{Traffic};
 ghost use Rattle.daa_scan.specs.Trunks.{is_needed};
@@ -27,9 +27,9 @@ use crate::sharing::{meets_by_branch, sure_past, walk_ahead};
 use crate::trail::Trail;
 use crate::trunks::{Trunks, lead_to};
 use daa_config::{Candidate, Config, Kind};
-use daa_detect::is_hit;
 use daa_fixed::Leg;
 use daa_legs::{Branch, Trunk};
+use daa_meet::{are_exact, violates_on};
 
 /// So many candidates are passed over by one look at their masks, where none of them is asked.
 const TOGETHER: u32 = 16;
@@ -143,7 +143,7 @@ fn mark_level(
         l,
         level: *level,
         windows: windows_at(encounter, level, &present),
-        nested: is_nested(encounter.config, l),
+        nested: is_nested(encounter, l),
     };
     mark_present(&round, &present, first, masks);
     mark_kind(&round, Kind::Track, &mut stretches.tracks, first, masks);
@@ -164,12 +164,16 @@ fn mark_level(
     mark_kind(&round, Kind::Altitude, &mut stretches.heights, first, masks);
 }
 
-/// Whether level `l` lies within the one before it.
-fn is_nested(config: &Config, l: u32) -> bool
-    requires { (1 ≤ l) × (l ≤ length config.now.levels) }
-    ensures { (level : Level) → IsLevelAt config.now l level
-        → IsTrue result → IsNestedAt config.now l level }
+/// Whether the reports are exact and level `l` lies within the one before it.
+fn is_nested(encounter: &Encounter, l: u32) -> bool
+    requires { (1 ≤ l) × (l ≤ length encounter.now.config.now.levels) }
+    ensures { (level : Level) → IsLevelAt encounter.now.config.now l level → IsTrue result
+        → IsNestedAt encounter.now.config.now encounter.now.aircraft.now l level }
 {
+    let config = encounter.config;
+    if !are_exact(&encounter.aircraft.bounds) {
+        return false;
+    }
     l > 1 && lies_within(config.level(l), config.level(l - 1))
 }
 
@@ -178,7 +182,8 @@ fn is_nested(config: &Config, l: u32) -> bool
 fn mark_present(round: &Round, present: &Leg, first: u32, masks: &mut [u8])
     requires in_range { IsLegInRange present.now }
     requires seconds { HoldsSometime present.now.secs
-        (Violates present.now round.now.level.volume) ↔ IsMet round.now Candidate.Hold }
+        (ViolatesBy (aircraft_in round.now) 0 present.now round.now.level.volume)
+        ↔ IsMet round.now Candidate.Hold }
     ensures masks { (before : List ℕ)
         → AreMasks (settings_in round.now) (own_in round.now) (aircraft_in round.now)
         first (round.now.l - 1) before masks.old
@@ -194,10 +199,11 @@ fn mark_present(round: &Round, present: &Leg, first: u32, masks: &mut [u8])
 fn present_mask(round: &Round, present: &Leg, mask: u8) -> u8
     requires in_range { IsLegInRange present.now }
     requires seconds { HoldsSometime present.now.secs
-        (Violates present.now round.now.level.volume) ↔ IsMet round.now Candidate.Hold }
+        (ViolatesBy (aircraft_in round.now) 0 present.now round.now.level.volume)
+        ↔ IsMet round.now Candidate.Hold }
     ensures { AddsNext round.now 0 mask result }
 {
-    let met = is_hit(present, &round.level.volume);
+    let met = violates_on(present, &round.level.volume, round.encounter.aircraft, 0);
     with_level(mask, round.l, met)
 }
 

@@ -1,5 +1,6 @@
 //! Which aircraft are near enough to be met at all, by their places now and the greatest speeds at
-//! which they can near.
+//! which they can near. An aircraft whose report may err, or the ownship's beside it, is taken to
+//! be.
 
 ghost use Rattle.std.specs.Prelude.{◌≡◌, ◌↔◌, ◌≤◌, ◌^◌, IsTrue, pos, ◌+ℤ◌, ◌*ℤ◌, ◌≤ℤ◌};
 ghost use Rattle.daa_fixed.specs.Leg.{IsSolidBelow};
@@ -11,12 +12,16 @@ use crate::encounter::Encounter;
 use daa_config::{Kind, Level};
 use daa_fixed::Solid;
 use daa_legs::relative_from;
+use daa_meet::are_exact;
 
-/// Whether some level's volume can be entered within its lookahead.
+/// Whether some level's volume can be entered within its lookahead, or what is reported may err.
 pub(crate) fn is_in_reach(encounter: &Encounter) -> bool
     ensures { IsTrue result ↔ IsInReach encounter.now.config.now encounter.now.own.now
         encounter.now.aircraft.now }
 {
+    if !are_exact(&encounter.aircraft.bounds) {
+        return true;
+    }
     let place = place_at_present(encounter);
     let horizontal = greatest_horizontal_speed(encounter);
     let vertical = greatest_vertical_speed(encounter);

@@ -10,6 +10,7 @@ ghost use Rattle.daa_taumod.specs.Volume.{IsVolumeInRange, Violates};
 ghost use Rattle.daa_taumod.specs.declared.Volume.{Volume};
 ghost use Rattle.daa_vwindow.specs.Window.{HasSmallNumbers};
 ghost use Rattle.daa_config.specs.Settings.{IsLevelInRange, rates_of};
+ghost use Rattle.daa_legs.specs.Violating.{ViolatesBy};
 ghost use Rattle.daa_legs.specs.Meeting.{MeetsWithin};
 ghost use Rattle.daa_legs.specs.OwnLeg.{own_leg};
 ghost use Rattle.daa_legs.specs.Relative.{relative_for};
@@ -21,6 +22,7 @@ use daa_config::{Candidate, Kind, Level};
 use daa_detect::is_hit;
 use daa_fixed::{Flat, Leg, Point, Solid};
 use daa_legs::{OwnRun, relative_run_from};
+use daa_meet::are_exact;
 use daa_taumod::Volume;
 use daa_vwindow::window;
 
@@ -75,7 +77,8 @@ pub(crate) fn present_run(encounter: &Encounter, secs: u32) -> Leg
         (own_leg encounter.now.own.now (rates_of encounter.now.config.now) Candidate.Hold 0)
         encounter.now.aircraft.now 0 }
     ensures in_range { IsLegInRange result }
-    ensures seconds { (volume : Volume) → HoldsSometime result.secs (Violates result volume)
+    ensures seconds { (volume : Volume)
+        → HoldsSometime result.secs (ViolatesBy encounter.now.aircraft.now 0 result volume)
         ↔ MeetsWithin encounter.now.config.now encounter.now.own.now Candidate.Hold
         encounter.now.aircraft.now volume secs }
 {
@@ -88,7 +91,8 @@ pub(crate) fn present_run(encounter: &Encounter, secs: u32) -> Leg
 }
 
 /// The seconds in which the candidates of each kind may violate a level's volume, by the present
-/// flight's seconds up to its lookahead as one leg.
+/// flight's seconds up to its lookahead as one leg. Where what is reported may err, each second is
+/// among them.
 pub(crate) fn windows_at(encounter: &Encounter, level: &Level, present: &Leg) -> Windows
     requires level { IsLevelInRange level.now }
     requires present { present.now ≡ relative_for level.now.lookahead
@@ -98,6 +102,12 @@ pub(crate) fn windows_at(encounter: &Encounter, level: &Level, present: &Leg) ->
     ensures { AreWindowsOf encounter.now.config.now encounter.now.own.now
         encounter.now.aircraft.now level.now result }
 {
+    if !are_exact(&encounter.aircraft.bounds) {
+        return Windows {
+            turns: ALL,
+            climbs: ALL,
+        };
+    }
     Windows {
         turns: seconds_in_height(present, &level.volume),
         climbs: seconds_in_plane(present, &level.volume),

@@ -13,9 +13,9 @@ ghost use Rattle.daa_scan.specs.Inside.Sharing.{IsTrailOf, IsSure, IsTrailAt, Is
 use crate::encounter::Round;
 use crate::trail::Trail;
 use daa_config::Candidate;
-use daa_detect::is_hit;
 use daa_fixed::Solid;
 use daa_legs::{Branch, OwnLeg, OwnRun, Trunk, end_of, relative_from, relative_run_from};
+use daa_meet::violates_on;
 
 /// So many legs of a trunk are walked at least, once a leg is, or all before the lookahead: one
 /// call for many candidates.
@@ -111,7 +111,7 @@ fn walk_on(round: &Round, lead: Candidate, trunk: &Trunk, trail: &mut Trail, upt
     let last = upto.min(trail.end);
     let mut walked = trail.walked;
     while walked < last {
-        if violates_on(round, lead, trunk, walked) {
+        if violates_on_trunk(round, lead, trunk, walked) {
             trail.walked = walked;
             trail.hit = true;
             return;
@@ -123,20 +123,14 @@ fn walk_on(round: &Round, lead: Candidate, trunk: &Trunk, trail: &mut Trail, upt
 
 /// Whether a leg of the trunk violates the level's volume.
 #[inline(always)]
-fn violates_on(round: &Round, lead: Candidate, trunk: &Trunk, k: u32) -> bool
+fn violates_on_trunk(round: &Round, lead: Candidate, trunk: &Trunk, k: u32) -> bool
     requires lead { IsLed round.now lead trunk.now }
     requires k { k < round.now.level.lookahead }
     ensures { IsTrue result ↔ IsHitOn round.now lead k }
 {
-    is_hit(
-        &relative_from(
-            trunk.leg(k),
-            round.encounter.aircraft,
-            &round.encounter.place,
-            k,
-        ),
-        &round.level.volume,
-    )
+    let aircraft = round.encounter.aircraft;
+    let seen = relative_from(trunk.leg(k), aircraft, &round.encounter.place, k);
+    violates_on(&seen, &round.level.volume, aircraft, k)
 }
 
 /// Whether the candidate that has this branch meets the aircraft on the leg on which it leaves the
@@ -176,10 +170,9 @@ fn meets_from_own_leg(round: &Round, branch: &Branch, place: &Solid) -> bool
 {
     let k = branch.leaves;
     let first = own_leg_of(branch, place);
-    if is_hit(
-        &relative_from(&first, round.encounter.aircraft, &round.encounter.place, k),
-        &round.level.volume,
-    ) {
+    let aircraft = round.encounter.aircraft;
+    let seen = relative_from(&first, aircraft, &round.encounter.place, k);
+    if violates_on(&seen, &round.level.volume, aircraft, k) {
         return true;
     }
     meets_on_rest(round, &branch.velocity, &end_of(&first), k + 1)
@@ -221,10 +214,9 @@ fn meets_on_rest(round: &Round, velocity: &Solid, place: &Solid, k: u32) -> bool
         velocity: *velocity,
         secs: round.level.lookahead - k,
     };
-    is_hit(
-        &relative_run_from(&run, round.encounter.aircraft, &round.encounter.place, k),
-        &round.level.volume,
-    )
+    let aircraft = round.encounter.aircraft;
+    let seen = relative_run_from(&run, aircraft, &round.encounter.place, k);
+    violates_on(&seen, &round.level.volume, aircraft, k)
 }
 
 /// Whether the candidate that has this branch, which violates nothing from the trail's end on,

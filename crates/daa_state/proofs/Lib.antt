@@ -7,6 +7,7 @@ pub mod WordLaws
 pub mod CheckedLemmas
 pub mod FormatLaws
 pub mod AgeLaws
+pub mod SureLaws
 pub mod RangeLemmas
 pub mod WordRanges
 pub mod StepRanges

@@ -6,16 +6,17 @@ use Rattle.std.proofs.lemmas.Option.{slice_get_within, slice_get-get_or}
 use Rattle.std.proofs.lemmas.List.{take_more, take_all, drop_more, drop_all}
 use Rattle.std.proofs.lemmas.Bool.{lt-ltb, le-ltb}
 use Rattle.std.proofs.lemmas.List.Elements.{All-nil, All-from_get_or}
-use Rattle.daa_state.specs.Checked.{bounds_of, is_within, out_of_range, first_out_of_range, own_numbers, traffic_numbers, IsTakenAt}
+use Rattle.daa_state.specs.Checked.{bounds_of, is_within, out_of_range, first_out_of_range, own_numbers, traffic_numbers, with_bounds, IsTakenAt}
 use Rattle.daa_state.specs.Checked.{AreTaken, fault_at, earlier, fault_from, own_fault, picture_fault_of}
 use Rattle.daa_state.specs.Id.{is_id}
-use Rattle.daa_state.specs.InRange.{IsWithin, IsOwnInRange, IsTrafficInRange}
-use Rattle.daa_state.specs.Ranges.{Bounds}
+use Rattle.daa_state.specs.InRange.{IsWithin, IsErrorBound, AreReportBoundsInRange, IsOwnInRange, IsTrafficInRange}
+use Rattle.daa_state.specs.Ranges.{Bounds, error_bounds}
 use Rattle.daa_state.specs.declared.checked.Number.{Number}
 use Rattle.daa_state.specs.declared.checked.OutOfRange.{OutOfRange}
 use Rattle.daa_state.specs.declared.checked.PictureFault.{PictureFault}
 use Rattle.daa_state.specs.declared.checked.PictureFault.TheVariants as says
 use Rattle.daa_state.specs.declared.word.Own.{Own}
+use Rattle.daa_state.specs.declared.word.ReportBounds.{ReportBounds}
 use Rattle.daa_state.specs.declared.word.Traffic.{Traffic}
 
 abbrev pub IsTaken : List Traffic → ℕ → Type 0
@@ -71,6 +72,17 @@ own_range own none =
     let all = none_out_of_range (own_numbers own) none in
     record { x = all.0; y = all.1.0; alt = all.1.1.0; trk = all.1.1.1.0; gs = all.1.1.1.1.0; vs = all.1.1.1.1.1.0 }
 
+error_bound : (n : ℕ) → IsWithin error_bounds (pos n) → IsErrorBound n
+error_bound n h = let small : pos n ≤ℤ pos 10000 = h.1 in omega (arith, ints, small)
+
+report_bounds : (bounds : ReportBounds) (others : List Number) → AreWithin (with_bounds bounds others) → AreReportBoundsInRange bounds
+report_bounds bounds others all = record {
+  place = error_bound bounds.place all.0;
+  height = error_bound bounds.height all.1.0;
+  speed = error_bound bounds.speed all.1.1.0;
+  climb = error_bound bounds.climb all.1.1.1.0;
+}
+
 pub traffic_range : (aircraft : Traffic) → is_id aircraft.id ≡ true → first_out_of_range (traffic_numbers aircraft) ≡ None → IsTrafficInRange aircraft
 traffic_range aircraft id none =
     let all = none_out_of_range (traffic_numbers aircraft) none in
@@ -83,6 +95,10 @@ traffic_range aircraft id none =
       vy = all.1.1.1.1.0;
       vs = all.1.1.1.1.1.0;
       age = (let young : pos aircraft.age ≤ℤ pos 60 = all.1.1.1.1.1.1.0.1 in omega (arith, ints, young));
+      bounds = record {
+        own = report_bounds aircraft.bounds.own (with_bounds aircraft.bounds.aircraft []) all.1.1.1.1.1.1.1;
+        aircraft = report_bounds aircraft.bounds.aircraft [] all.1.1.1.1.1.1.1.1.1.1.1;
+      };
     }
 
 -- ---- a picture

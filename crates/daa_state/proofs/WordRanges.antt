@@ -7,7 +7,8 @@ use Rattle.std.specs.Str.Lines.{strip_carriage_return}
 use Rattle.daa_state.specs.Fields.{fields_of}
 use Rattle.daa_state.specs.Inside.Texts.{Bytes}
 use Rattle.daa_state.specs.Id.{is_id}
-use Rattle.daa_state.specs.InRange.{IsWithin, IsPosition, IsAltitude, IsTrack, IsGroundSpeed, IsSpeed, IsVerticalSpeed, IsAge, IsFormat, IsTrafficInRange, IsWordInRange}
+use Rattle.daa_state.specs.InRange.{IsWithin, IsPosition, IsAltitude, IsTrack, IsGroundSpeed, IsSpeed, IsVerticalSpeed, IsAge, AreReportBoundsInRange, AreBoundsInRange, IsFormat, IsTrafficInRange, IsWordInRange}
+use Rattle.daa_state.specs.Bounds.{no_error, exact}
 use Rattle.daa_state.specs.Number.{number, number_in, count_in}
 use Rattle.daa_state.specs.Ranges.{Bounds, positions, altitudes, tracks, ground_speeds, speeds, vertical_speeds, ages, formats, times}
 use Rattle.daa_state.specs.WordOf.{word_of, word_of_fields, number_word, own_of, traffic_of, aged_traffic_of, aircraft, end_of}
@@ -52,6 +53,12 @@ identifier-is field = go (is_id field) refl
     go true e = e
     go false e = tt
 
+no_error-range : AreReportBoundsInRange no_error
+no_error-range = record { place = omega arith; height = omega arith; speed = omega arith; climb = omega arith }
+
+pub exact-range : AreBoundsInRange exact
+exact-range = record { own = no_error-range; aircraft = no_error-range }
+
 aircraft-range : (id x y alt vx vy vs : Bytes) → IfOk (aircraft id x y alt vx vy vs) IsTrafficInRange
 unfolding aircraft
 aircraft-range id x y alt vx vy vs =
@@ -62,7 +69,7 @@ aircraft-range id x y alt vx vy vs =
     IfOk-with IsSpeed IsTrafficInRange (number_in speeds vx) _ (number_in-range speeds vx) (λ vx in_vx.
     IfOk-with IsSpeed IsTrafficInRange (number_in speeds vy) _ (number_in-range speeds vy) (λ vy in_vy.
     IfOk-with IsVerticalSpeed IsTrafficInRange (number_in vertical_speeds vs) _ (number_in-range vertical_speeds vs) (λ vs in_vs.
-    record { id = in_id; x = in_x; y = in_y; alt = in_alt; vx = in_vx; vy = in_vy; vs = in_vs; age = omega arith })))))))
+    record { id = in_id; x = in_x; y = in_y; alt = in_alt; vx = in_vx; vy = in_vy; vs = in_vs; age = omega arith; bounds = exact-range })))))))
 
 moment-range : (fields : List Bytes) → IfOk (number_word times says.Moment fields) IsWordInRange
 unfolding number_word
@@ -92,7 +99,7 @@ unfolding aged_traffic_of
 aged_traffic_of-range (a ∷ b ∷ c ∷ d ∷ e ∷ f ∷ g ∷ s ∷ []) =
     IfOk-with IsTrafficInRange _ (aircraft a b c d e f g) _ (aircraft-range a b c d e f g) (λ traffic h.
     IfOk-with IsAge _ (count_in ages s) _ (age-range s) (λ seconds k.
-    record { id = h.id; x = h.x; y = h.y; alt = h.alt; vx = h.vx; vy = h.vy; vs = h.vs; age = k }))
+    record { id = h.id; x = h.x; y = h.y; alt = h.alt; vx = h.vx; vy = h.vy; vs = h.vs; age = k; bounds = h.bounds }))
 aged_traffic_of-range _ = tt
 
 format_word-range : (fields : List Bytes) → IfOk (number_word formats says.Format fields) IsWordInRange

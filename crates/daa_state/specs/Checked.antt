@@ -2,14 +2,15 @@
 use Rattle.std.specs.Prelude.{◌≡◌, ◌+◌, ℕ, ℤ, pos, true, false, Bool, ◌&&◌, int_le, nat_lt, List, [], ◌∷◌, length, take, slice_get, Option, Some, None, if◌then◌else◌}
 use Rattle.daa_state.specs.InRange.{IsTrafficInRange}
 use Rattle.daa_state.specs.MomentStep.{has_id}
-use Rattle.daa_state.specs.Ranges.{Bounds, positions, altitudes, tracks, ground_speeds, speeds, vertical_speeds, ages}
+use Rattle.daa_state.specs.Ranges.{Bounds, positions, altitudes, tracks, ground_speeds, speeds, vertical_speeds, ages, error_bounds}
 use Rattle.daa_state.specs.declared.checked.Field.{Field}
-use Rattle.daa_state.specs.declared.checked.Field.TheVariants.{East, North, Altitude, Track, GroundSpeed, VerticalSpeed, SpeedEast, SpeedNorth, Age}
+use Rattle.daa_state.specs.declared.checked.Field.TheVariants.{East, North, Altitude, Track, GroundSpeed, VerticalSpeed, SpeedEast, SpeedNorth, Age, PlaceBound, HeightBound, SpeedBound, ClimbBound}
 use Rattle.daa_state.specs.declared.checked.Number.{Number}
 use Rattle.daa_state.specs.declared.checked.OutOfRange.{OutOfRange}
 use Rattle.daa_state.specs.declared.checked.PictureFault.{PictureFault}
 use Rattle.daa_state.specs.declared.checked.PictureFault.TheVariants as says
 use Rattle.daa_state.specs.declared.word.Own.{Own}
+use Rattle.daa_state.specs.declared.word.ReportBounds.{ReportBounds}
 use Rattle.daa_state.specs.declared.word.Traffic.{Traffic}
 
 -- the bounds of the numbers that a field names
@@ -23,6 +24,10 @@ bounds_of VerticalSpeed = vertical_speeds
 bounds_of SpeedEast = speeds
 bounds_of SpeedNorth = speeds
 bounds_of Age = ages
+bounds_of PlaceBound = error_bounds
+bounds_of HeightBound = error_bounds
+bounds_of SpeedBound = error_bounds
+bounds_of ClimbBound = error_bounds
 
 -- whether a number is in a range
 abbrev pub is_within : Bounds → ℤ → Bool
@@ -46,10 +51,16 @@ abbrev pub own_numbers : Own → List Number
 own_numbers own = number_of East own.x ∷ number_of North own.y ∷ number_of Altitude own.alt ∷ number_of Track own.trk
     ∷ number_of GroundSpeed own.gs ∷ number_of VerticalSpeed own.vs ∷ []
 
+-- the bounds of a report, in the order of its fields, before other numbers
+abbrev pub with_bounds : ReportBounds → List Number → List Number
+with_bounds bounds others = number_of PlaceBound (pos bounds.place) ∷ number_of HeightBound (pos bounds.height)
+    ∷ number_of SpeedBound (pos bounds.speed) ∷ number_of ClimbBound (pos bounds.climb) ∷ others
+
 -- the numbers of an aircraft, in the order of its fields
 abbrev pub traffic_numbers : Traffic → List Number
 traffic_numbers t = number_of East t.x ∷ number_of North t.y ∷ number_of Altitude t.alt ∷ number_of SpeedEast t.vx
-    ∷ number_of SpeedNorth t.vy ∷ number_of VerticalSpeed t.vs ∷ number_of Age (pos t.age) ∷ []
+    ∷ number_of SpeedNorth t.vy ∷ number_of VerticalSpeed t.vs ∷ number_of Age (pos t.age)
+    ∷ with_bounds t.bounds.own (with_bounds t.bounds.aircraft [])
 
 -- the aircraft at a place of a list is in range, and none before it has its identifier
 pub record IsTakenAt (traffic : List Traffic) (place : ℕ) (aircraft : Traffic) : Type 0 where

@@ -1,9 +1,11 @@
 -- Words, moments and pictures whose numbers are in range.
 use Rattle.std.specs.Prelude.{ℕ, ◌≡◌, ◌≤◌, ℤ, ◌≤ℤ◌, unsigned_abs, true, length, All}
 use Rattle.daa_state.specs.Id.{is_id}
-use Rattle.daa_state.specs.Ranges.{Bounds, positions, altitudes, tracks, ground_speeds, speeds, vertical_speeds, ages, formats}
+use Rattle.daa_state.specs.Ranges.{Bounds, positions, altitudes, tracks, ground_speeds, speeds, vertical_speeds, ages, error_bounds, formats}
 use Rattle.daa_state.specs.Picture.{aircraft_of}
 use Rattle.daa_state.specs.declared.word.Own.{Own}
+use Rattle.daa_state.specs.declared.word.PairBounds.{PairBounds}
+use Rattle.daa_state.specs.declared.word.ReportBounds.{ReportBounds}
 use Rattle.daa_state.specs.declared.word.Traffic.{Traffic}
 use Rattle.daa_state.specs.declared.word.Picture.{Picture}
 use Rattle.daa_state.specs.declared.word.Word.{Word}
@@ -41,6 +43,22 @@ IsVerticalSpeed = IsWithin vertical_speeds
 abbrev pub IsAge : ℕ → Type 0
 IsAge n = n ≤ unsigned_abs ages.high
 
+-- a bound of an error is in its range
+abbrev pub IsErrorBound : ℕ → Type 0
+IsErrorBound n = n ≤ unsigned_abs error_bounds.high
+
+-- each bound of a report is in its range
+pub record AreReportBoundsInRange (bounds : ReportBounds) : Type 0 where
+  pub place : IsErrorBound bounds.place
+  pub height : IsErrorBound bounds.height
+  pub speed : IsErrorBound bounds.speed
+  pub climb : IsErrorBound bounds.climb
+
+-- so are those of both reports
+pub record AreBoundsInRange (bounds : PairBounds) : Type 0 where
+  pub own : AreReportBoundsInRange bounds.own
+  pub aircraft : AreReportBoundsInRange bounds.aircraft
+
 -- the format of the lines is 1 or 2
 abbrev pub IsFormat : ℕ → Type 0
 IsFormat n = (unsigned_abs formats.low ≤ n) × (n ≤ unsigned_abs formats.high)
@@ -64,6 +82,7 @@ pub record IsTrafficInRange (traffic : Traffic) : Type 0 where
   pub vy : IsSpeed traffic.vy
   pub vs : IsVerticalSpeed traffic.vs
   pub age : IsAge traffic.age
+  pub bounds : AreBoundsInRange traffic.bounds
 
 -- the numbers of a word are in their ranges
 abbrev pub IsWordInRange : Word → Type 0

@@ -2,6 +2,7 @@ pub mod Fault
 pub mod Ranges
 pub mod Fields
 pub mod Id
+pub mod Bounds
 pub mod Number
 pub mod WordOf
 pub mod Picture

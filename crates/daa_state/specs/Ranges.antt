@@ -34,6 +34,10 @@ vertical_speeds = record { low = neg_ℤ (pos 10000); high = pos 10000 }
 abbrev pub ages : Bounds
 ages = record { low = pos 0; high = pos 60 }
 
+-- how far a report may be from the truth, each number in its unit
+abbrev pub error_bounds : Bounds
+error_bounds = record { low = pos 0; high = pos 10000 }
+
 -- the formats of the lines
 abbrev pub formats : Bounds
 formats = record { low = pos 1; high = pos 2 }

@@ -6,6 +6,7 @@ use Rattle.daa_state.specs.Fault.{Checked, ◌>>=◌, checked_map}
 use Rattle.daa_state.specs.Fields.{fields_of}
 use Rattle.daa_state.specs.Id.{is_id}
 use Rattle.daa_state.specs.Number.{number_in, count_in}
+use Rattle.daa_state.specs.Bounds.{exact}
 use Rattle.daa_state.specs.Ranges.{Bounds, positions, altitudes, tracks, ground_speeds, speeds, vertical_speeds, ages, formats, times}
 use Rattle.daa_state.specs.declared.word.Word.{Word}
 use Rattle.daa_state.specs.declared.word.Word.TheVariants as says
@@ -39,7 +40,7 @@ aircraft id x y alt vx vy vs = do
   vx ← number_in speeds vx
   vy ← number_in speeds vy
   vs ← number_in vertical_speeds vs
-  Ok (record { id = id; x = x; y = y; alt = alt; vx = vx; vy = vy; vs = vs; age = 0 })
+  Ok (record { id = id; x = x; y = y; alt = alt; vx = vx; vy = vy; vs = vs; age = 0; bounds = exact })
 
 -- `traffic ID X Y ALT VX VY VS`, of format 1
 unfoldable pub traffic_of : List (List ℕ) → Checked Word

@@ -38,6 +38,14 @@ pub enum Field {
     SpeedNorth,
     /// How many seconds old an aircraft's report is, `age`.
     Age,
+    /// How far a reported place may be from the true one, in thousandths of a nautical mile.
+    PlaceBound,
+    /// How far a reported altitude may be from the true one, in feet.
+    HeightBound,
+    /// How far a reported velocity over ground may be from the true one, in tenths of a knot.
+    SpeedBound,
+    /// How far a reported vertical speed may be from the true one, in feet per minute.
+    ClimbBound,
 }
 
 /// A number of a state is out of its range: what it is, and the least and the greatest that it may
@@ -72,6 +80,7 @@ impl Field {
             Field::East | Field::North => -200_000,
             Field::Altitude => -2_000,
             Field::Track | Field::GroundSpeed | Field::Age => 0,
+            Field::PlaceBound | Field::HeightBound | Field::SpeedBound | Field::ClimbBound => 0,
             Field::VerticalSpeed | Field::SpeedEast | Field::SpeedNorth => -10_000,
         }
     }
@@ -87,6 +96,8 @@ impl Field {
             Field::GroundSpeed | Field::VerticalSpeed | Field::SpeedEast | Field::SpeedNorth =>
                 10_000,
             Field::Age => 60,
+            Field::PlaceBound | Field::HeightBound | Field::SpeedBound | Field::ClimbBound =>
+                10_000,
         }
     }
 
@@ -102,6 +113,10 @@ impl Field {
             Field::SpeedEast => "vx (0.1 kt)",
             Field::SpeedNorth => "vy (0.1 kt)",
             Field::Age => "age (s)",
+            Field::PlaceBound => "a bound of the place (0.001 NM)",
+            Field::HeightBound => "a bound of the altitude (ft)",
+            Field::SpeedBound => "a bound of the velocity (0.1 kt)",
+            Field::ClimbBound => "a bound of the vertical speed (ft/min)",
         }
     }
 }
@@ -169,18 +184,18 @@ fn own_numbers(own: &Own) -> [Number; 6]
     ]
 }
 
-/// The age of an aircraft's report.
-fn age_of(aircraft: &Traffic) -> Number
-    ensures { result ≡ number_of Field.Age (pos aircraft.now.age) }
+/// A number that is never negative, and what it is.
+fn count_of(field: Field, count: u32) -> Number
+    ensures { result ≡ number_of field (pos count) }
 {
     Number {
-        field: Field::Age,
-        number: i64::from(aircraft.age),
+        field,
+        number: i64::from(count),
     }
 }
 
-/// The numbers of an aircraft.
-fn traffic_numbers(aircraft: &Traffic) -> [Number; 7]
+/// The numbers of an aircraft. Its bounds come last, those of the ownship's report first.
+fn traffic_numbers(aircraft: &Traffic) -> [Number; 15]
     ensures { result ≡ traffic_numbers aircraft.now }
 {
     [
@@ -190,7 +205,15 @@ fn traffic_numbers(aircraft: &Traffic) -> [Number; 7]
         number_of(Field::SpeedEast, aircraft.vx),
         number_of(Field::SpeedNorth, aircraft.vy),
         number_of(Field::VerticalSpeed, aircraft.vs),
-        age_of(aircraft),
+        count_of(Field::Age, aircraft.age),
+        count_of(Field::PlaceBound, aircraft.bounds.own.place),
+        count_of(Field::HeightBound, aircraft.bounds.own.height),
+        count_of(Field::SpeedBound, aircraft.bounds.own.speed),
+        count_of(Field::ClimbBound, aircraft.bounds.own.climb),
+        count_of(Field::PlaceBound, aircraft.bounds.aircraft.place),
+        count_of(Field::HeightBound, aircraft.bounds.aircraft.height),
+        count_of(Field::SpeedBound, aircraft.bounds.aircraft.speed),
+        count_of(Field::ClimbBound, aircraft.bounds.aircraft.climb),
     ]
 }
 

@@ -2,6 +2,7 @@
 
 ghost use Rattle.std.specs.Prelude.{◌≡◌, ◌∷◌, [], pos, negsuc, codes, replicate, None};
 ghost use Rattle.daa_state.specs.WordOf.{word_of};
+ghost use Rattle.daa_state.specs.Bounds.{exact};
 ghost use Rattle.daa_state.specs.MomentStep.{step, empty_moment};
 ghost use Rattle.daa_state.specs.Laws.{First256BytesDecide, LongFrom256Bytes};
 ghost use Rattle.daa_state.specs.Laws.{OnlyFormatLinesSayFormats};
@@ -59,6 +60,7 @@ pub fn worked_examples()
           vy = pos 3600;
           vs = pos 0;
           age = 10;
+          bounds = exact;
         })) }
     ensures longest_comment { word_of (replicate 255 35) 1 ≡ Ok Word.Skip }
     ensures long_comment { word_of (replicate 256 35) 1 ≡ Err LineFault.LongLine }

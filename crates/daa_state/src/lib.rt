@@ -23,5 +23,5 @@ pub use laws::{
     without_format_lines_four_words_are_read, worked_examples,
 };
 pub use moments::Moments;
-pub use word::{MOST_AIRCRAFT, Own, Picture, Traffic, Word};
+pub use word::{MOST_AIRCRAFT, Own, PairBounds, Picture, ReportBounds, Traffic, Word};
 pub use word_of::read_line;

@@ -6,6 +6,7 @@ ghost use Rattle.std.specs.Str.Lines.{strip_carriage_return};
 ghost use Rattle.daa_state.specs.Inside.Texts.{texts};
 ghost use Rattle.daa_state.specs.Id.{is_id};
 ghost use Rattle.daa_state.specs.InRange.{IsFormat, IsWordInRange, IsOwnInRange, IsTrafficInRange};
+ghost use Rattle.daa_state.specs.Bounds.{IsSureWord};
 ghost use Rattle.daa_state.specs.Fault.{checked_map};
 ghost use Rattle.daa_state.specs.Ranges.{formats, times};
 ghost use Rattle.daa_state.specs.WordOf.{word_of, word_of_fields, number_word, own_of};
@@ -17,7 +18,7 @@ use crate::id::Id;
 use crate::number::{
     age, altitude, ground_speed, line_format, position, seconds, speed, track, vertical_speed,
 };
-use crate::word::{Own, Traffic, Word};
+use crate::word::{Own, PairBounds, Traffic, Word};
 
 /// The most bytes of a line that is read.
 const MOST_LINE_BYTES: usize = 255;
@@ -37,12 +38,13 @@ const MOST_LINE_BYTES: usize = 255;
 /// A line of at most 255 bytes with no field, or whose first field begins with `#`, is `Skip`; a
 /// longer one is `LongLine`, also a comment. A number is an optional sign and 1 to 10 digits. The
 /// ranges are those of `Own` and `Traffic`; a time is below 2 ^ 32 seconds. In format 1 every age
-/// is 0.
+/// is 0. Each report is taken as the truth.
 #[tactic(auto, unfolding(crate::specs::WordOf::word_of))]
 pub fn read_line(line: &[u8], format: u32) -> Result<Word, LineFault>
     requires { IsFormat format }
     ensures value { result ≡ word_of line.now format }
     ensures range { IfOk result IsWordInRange }
+    ensures sure { IfOk result IsSureWord }
 {
     if line.len() > MOST_LINE_BYTES {
         return Err(LineFault::LongLine);
@@ -183,8 +185,8 @@ fn aged_traffic(fields: &[&[u8]]) -> Result<Word, LineFault>
     }
 }
 
-/// The aircraft of seven fields, whose report has age 0, or the fault of the first field that is
-/// wrong.
+/// The aircraft of seven fields, whose report has age 0 and, as the ownship's, is taken as the
+/// truth; or the fault of the first field that is wrong.
 #[tactic(auto, unfolding(crate::specs::WordOf::aircraft))]
 fn aircraft(
     id: &[u8],
@@ -207,6 +209,7 @@ fn aircraft(
         vy: speed(vy)?,
         vs: vertical_speed(vs)?,
         age: 0,
+        bounds: PairBounds::EXACT,
     })
 }
 

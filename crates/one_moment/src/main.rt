@@ -9,7 +9,7 @@ use daa_config::examples::THREE_LEVELS;
 use daa_config::{Kind, Resolution, read};
 use daa_engine::Engine;
 use daa_resolve::Side;
-use daa_state::{Id, Own, Picture, PictureFault, Traffic};
+use daa_state::{Id, Own, PairBounds, Picture, PictureFault, Traffic};
 use std::{fmt, io};
 
 /// An answer as the report writes it.
@@ -53,6 +53,7 @@ fn encounter(amber: Id, bravo: Id) -> Result<Picture, PictureFault>
                 vy: 0,
                 vs: 0,
                 age: 0,
+                bounds: PairBounds::EXACT,
             },
             Traffic {
                 id: bravo,
@@ -63,6 +64,7 @@ fn encounter(amber: Id, bravo: Id) -> Result<Picture, PictureFault>
                 vy: 3600,
                 vs: -600,
                 age: 0,
+                bounds: PairBounds::EXACT,
             },
         ],
     )

@@ -1,5 +1,5 @@
 -- The parts of an age.
-use Rattle.std.specs.Prelude.{◌≡◌, ◌≤◌, ◌*◌, ℕ, ℤ, pos, neg_ℤ, ◌+ℤ◌, ◌<ℤ◌}
+use Rattle.std.specs.Prelude.{◌≡◌, ◌*◌, ℕ, ℤ, pos, neg_ℤ, ◌+ℤ◌, ◌<ℤ◌}
 use Rattle.daa_fixed.specs.Size.{IsFrom}
 
 -- whole seconds and what is left of an age in milliseconds

@@ -1,5 +1,5 @@
 -- What is known of the ownship and one aircraft of a moment, and of both at one level.
-use Rattle.std.specs.Prelude.{◌≡◌, ◌-◌, ◌≤◌, ℕ, Bool, IsTrue}
+use Rattle.std.specs.Prelude.{◌≡◌, ◌-◌, ◌≤◌, ℕ, Bool, true, IsTrue}
 use Rattle.daa_config.specs.declared.candidate.Candidate.TheVariants.{Hold}
 use Rattle.daa_config.specs.declared.level.Level.{Level}
 use Rattle.daa_config.specs.Settings.{Settings, IsAccepted, IsLevelAt, IsLevelInRange, rates_of}
@@ -8,6 +8,7 @@ use Rattle.daa_state.specs.declared.word.Traffic.{Traffic}
 use Rattle.daa_state.specs.InRange.{IsOwnInRange, IsTrafficInRange}
 use Rattle.daa_legs.specs.declared.own_leg.OwnLeg.{OwnLeg}
 use Rattle.daa_legs.specs.OwnLeg.{own_leg, IsOwnLegInRange}
+use Rattle.daa_legs.specs.Errors.{are_exact}
 use Rattle.daa_scan.specs.declared.refusal.Windows.{Windows}
 use Rattle.daa_scan.specs.Trunks.{AreIdle}
 use Rattle.daa_scan.specs.Inside.Trunks.{Shared, AreTrunksOf}
@@ -21,8 +22,9 @@ pub record IsEncounter (settings : Settings) (own : Own) (aircraft : Traffic) (h
   pub leg : hold ≡ own_leg own (rates_of settings) Hold 0
   pub leg_in_range : IsOwnLegInRange hold
 
--- level l is not the first, and lies within the one before it
-pub record IsNestedAt (settings : Settings) (l : ℕ) (level : Level) : Type 0 where
+-- the reports are exact, level l is not the first, and it lies within the one before it
+pub record IsNestedAt (settings : Settings) (aircraft : Traffic) (l : ℕ) (level : Level) : Type 0 where
+  pub exact : are_exact aircraft.bounds ≡ true
   pub some : 2 ≤ l
   pub within : (outer : Level) → IsLevelAt settings (l - 1) outer → LiesWithin level outer
 
@@ -39,4 +41,4 @@ pub record IsRound (settings : Settings) (own : Own) (aircraft : Traffic) (share
   pub in_range : IsLevelInRange level
   pub few : l ≤ 8
   pub seconds : AreWindowsOf settings own aircraft level windows
-  pub within : IsTrue nested → IsNestedAt settings l level
+  pub within : IsTrue nested → IsNestedAt settings aircraft l level

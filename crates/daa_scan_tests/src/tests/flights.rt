@@ -10,7 +10,7 @@ use daa_config::examples::ONE_LEVEL;
 use daa_config::{Candidate, Config, read};
 use daa_fixed::{Flat, Leg, Solid};
 use daa_legs::*;
-use daa_state::{Id, Own, Traffic};
+use daa_state::{Id, Own, PairBounds, Traffic};
 use std::test::Fail;
 
 const OWN: Own = Own {
@@ -192,6 +192,7 @@ fn an_aircraft_flies_on_from_its_report(rt: HostRuntime) -> Result<(), Fail> {
         vy: 3600,
         vs: 60,
         age: 0,
+        bounds: PairBounds::EXACT,
     };
     let aged = Traffic {
         age: 10,
@@ -226,6 +227,7 @@ fn a_run_is_one_leg(rt: HostRuntime) -> Result<(), Fail> {
         vy: 0,
         vs: 0,
         age: 60,
+        bounds: PairBounds::EXACT,
     };
     let mut flight = Flight::begin(&OWN, &config, Candidate::Altitude(1040));
     let first = relative_run(&flight.next_run(2), &aircraft, 0);

@@ -6,8 +6,6 @@ use Rattle.daa_alert.proofs.halving.meets_within.Goals as goal
 pub returns : goal.returns
 returns c =
     let run = hold_run c.args.own.now (rates_of c.args.config.now) c.args.hold.now c.args.m c.requires.hold in
-    let seconds = c.relative_run.ensures.seconds c.args.config.now c.args.own.now Hold c.args.volume.now run in
-    let start = from_start c.args.config.now c.args.own.now Hold c.args.aircraft.now c.args.volume.now c.args.m in (
-      (λ t. start.0 (seconds.0 (c.is_hit.ensures.0 t))),
-      (λ m. c.is_hit.ensures.1 (seconds.1 (start.1 m))),
-    )
+    let seconds = c.meets_on_run.ensures c.args.config.now c.args.own.now Hold run in
+    let start = from_start c.args.config.now c.args.own.now Hold c.args.aircraft.now c.args.volume.now c.args.m in
+    ((λ t. start.0 (seconds.0 t)), (λ m. seconds.1 (start.1 m)))

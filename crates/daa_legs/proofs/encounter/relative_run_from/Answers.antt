@@ -3,11 +3,11 @@ use Rattle.daa_fixed.specs.declared.Solid.{Solid}
 use Rattle.daa_fixed.specs.declared.Leg.{Leg}
 use Rattle.daa_fixed.specs.Leg.{minus, IsLegInRange}
 use Rattle.daa_fixed.specs.Time.{HoldsSometime}
-use Rattle.daa_taumod.specs.Volume.{Violates}
 use Rattle.daa_legs.specs.Relative.{relative_for}
+use Rattle.daa_legs.specs.Violating.{ViolatesBy}
 use Rattle.daa_legs.specs.Runs.{first_leg_of, MeetsBetween}
 use Rattle.daa_legs.proofs.Relatives.{relative_for-in_range}
-use Rattle.daa_legs.proofs.Stretches.{seconds}
+use Rattle.daa_legs.proofs.Seconds.{run_seconds}
 use Rattle.daa_legs.proofs.encounter.relative_run_from.Goals as goal
 
 known : (c : goal.After-difference-2) → let leg : Leg = record { place = c.difference.result; velocity = c.difference-2.result; secs = c.args.run.now.secs }
@@ -30,6 +30,6 @@ returns-clause-in_range c =
 
 pub returns-clause-seconds : goal.returns-clause-seconds
 returns-clause-seconds c settings own candidate volume r =
-    subst (λ (leg : Leg). HoldsSometime c.args.run.now.secs (Violates leg volume) ↔ MeetsBetween settings own candidate c.args.aircraft.now volume c.args.k
+    subst (λ (leg : Leg). HoldsSometime c.args.run.now.secs (ViolatesBy c.args.aircraft.now c.args.k leg volume) ↔ MeetsBetween settings own candidate c.args.aircraft.now volume c.args.k
     (c.args.k + c.args.run.now.secs)) (sym (known c))
-    (seconds settings own candidate c.args.aircraft.now volume c.args.k c.args.run.now r c.requires.run.some)
+    (run_seconds settings own candidate c.args.aircraft.now volume c.args.k c.args.run.now r c.requires.run.some)

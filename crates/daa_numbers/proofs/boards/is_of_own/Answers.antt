@@ -1,4 +1,4 @@
-use Rattle.std.proofs.Common.{◌≡◌, ◌∙◌, sym}
+use Rattle.std.proofs.Common.{◌∙◌, sym}
 use Rattle.daa_numbers.proofs.OwnLemmas.{same_own}
 use Rattle.daa_numbers.proofs.boards.is_of_own.Goals as goal
 

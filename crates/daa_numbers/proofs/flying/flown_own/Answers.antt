@@ -2,7 +2,7 @@ use Rattle.std.proofs.Common.{◌≡◌, ◌∙◌, ap, ℤ, rules, FitsSigned, 
 use Rattle.std.proofs.lemmas.Int.{ints}
 use Rattle.daa_fixed.specs.Size.{IsWithin}
 use Rattle.daa_fixed.specs.declared.Flat.{Flat}
-use Rattle.daa_fixed.proofs.Bounds.{fits, within, as_within}
+use Rattle.daa_fixed.proofs.Bounds.{fits, as_within}
 use Rattle.daa_heading.specs.Heading.{velocity_of}
 use Rattle.daa_heading.proofs.Sines.{east-within, north-within}
 use Rattle.daa_numbers.specs.Flown.{place_after, altitude_after}

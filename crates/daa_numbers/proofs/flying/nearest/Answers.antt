@@ -1,4 +1,4 @@
-use Rattle.std.proofs.Common.{◌≡◌, pos, rules, FitsSigned, w64, to_z-of_z, arith, lit<}
+use Rattle.std.proofs.Common.{◌≡◌, pos, w64, to_z-of_z, arith, lit<}
 use Rattle.std.proofs.lemmas.Int.{ints}
 use Rattle.daa_fixed.specs.Size.{IsWithin}
 use Rattle.daa_fixed.proofs.Bounds.{fits, times, plus, within, as_within}

@@ -1,7 +1,7 @@
-use Rattle.std.proofs.Common.{◌≡◌, ◌≢◌, ◌∙◌, ◌<◌, ◌^◌, ap, refl, subst, List, ℕ, pos, length, rules}
+use Rattle.std.proofs.Common.{◌≡◌, refl, subst, List, ℕ, pos, length, rules}
 use Rattle.std.proofs.lemmas.Nat.{pow_pos}
 use Rattle.daa_config.specs.Candidates.{candidates_of}
-use Rattle.daa_numbers.specs.Boards.{AreJoined, IsMarked, IsWhole}
+use Rattle.daa_numbers.specs.Boards.{AreJoined, IsMarked}
 use Rattle.daa_numbers.proofs.JoinLemmas.{joined_within}
 use Rattle.daa_numbers.proofs.joining.join.Goals as goal
 

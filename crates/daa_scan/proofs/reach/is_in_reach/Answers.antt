@@ -1,4 +1,4 @@
-use Rattle.std.proofs.Common.{◌≡◌, ◌↔◌, ◌≤◌, ℕ, ◌+◌, ◌-◌, Bool, ℤ, rules, FitsSigned, w64, to_z-of_z, refl, subst, ⊎_elim, arith}
+use Rattle.std.proofs.Common.{◌≡◌, ◌↔◌, ◌≤◌, ℕ, ◌+◌, ◌-◌, Bool, ℤ, rules, FitsSigned, w64, to_z-of_z, refl, inl, inr, subst, ⊎_elim, arith}
 use Rattle.std.specs.Prelude.{IsTrue}
 use Rattle.std.proofs.lemmas.Bool.{cases_lt}
 use Rattle.std.proofs.lemmas.Option.{slice_get_within}
@@ -7,6 +7,7 @@ use Rattle.daa_config.specs.Settings.{Settings, IsLevelAt}
 use Rattle.daa_fixed.specs.declared.Solid.{Solid}
 use Rattle.daa_legs.proofs.AtLevel.{one_level}
 use Rattle.daa_scan.specs.Reach.{place_now, horizontal_speed, vertical_speed, CanEnter}
+use Rattle.daa_scan.proofs.Marks.{exact_else, exact_not}
 use Rattle.daa_scan.proofs.reach.is_in_reach.Goals as goal
 use Rattle.daa_scan.proofs.reach.is_in_reach.Goals.{After-can_enter}
 
@@ -41,13 +42,19 @@ loop-done-preserved c = more c.args.encounter.now.config.now c.loop-done.done c.
 
 pub returns-then-can_enter : goal.returns-then-can_enter
 returns-then-can_enter c = (
-  (λ _. record { number = c.loop-done.done + 1; level = c.level.result.now; there = c.level.ensures.value; enters = (tested c.before).0 c.if-can_enter.true }),
+  (λ _. inr (record { number = c.loop-done.done + 1; level = c.level.result.now; there = c.level.ensures.value; enters = (tested c.before).0 c.if-can_enter.true })),
   (λ _. refl),
 )
 
 pub returns : goal.returns
 returns c = (
   (λ t. absurd (cc t)),
-  (λ r. let inside = slice_get_within c.args.encounter.now.config.now.levels (r.number - 1) r.level r.there.there in
-      absurd (c.loop-done.invariant r.number r.level (omega (arith, inside, c.levels-done-end.ensures.value, c.loop-done-test.false)) r.there r.enters)),
+  (λ reach. ⊎_elim
+      (λ unsure. absurd (cc (unsure, exact_else _ _ c.are_exact.ensures c.if-not-are_exact.false)))
+      (λ r. let inside = slice_get_within c.args.encounter.now.config.now.levels (r.number - 1) r.level r.there.there in
+      absurd (c.loop-done.invariant r.number r.level (omega (arith, inside, c.levels-done-end.ensures.value, c.loop-done-test.false)) r.there r.enters))
+      reach),
 )
+
+pub returns-then-not-are_exact : goal.returns-then-not-are_exact
+returns-then-not-are_exact c = ((λ _. inl (exact_not _ _ c.are_exact.ensures c.if-not-are_exact.true)), (λ _. refl))

@@ -10,8 +10,8 @@ use Rattle.daa_scan.specs.Inside.Rounds.{settings_in, own_in, aircraft_in}
 use Rattle.daa_scan.proofs.Trails.{own_by_branch, own_leg-in_range, leg_tested}
 use Rattle.daa_scan.proofs.sharing.meets_from_own_leg.Goals as goal
 
-pub relative_from-requires-clause-leg : goal.relative_from-requires-clause-leg
-relative_from-requires-clause-leg g c =
+pub relative_from-seen-requires-clause-leg : goal.relative_from-seen-requires-clause-leg
+relative_from-seen-requires-clause-leg g c =
     let r = c.args.round.now in
     let rates = rates_of (settings_in r) in
     let k = c.args.branch.now.leaves in
@@ -30,18 +30,18 @@ end_of-requires g c =
     c.own_leg_of-first.ensures in
     subst (λ (l : OwnLeg). IsOwnLegInRange l) (sym own) (own_leg-in_range (own_in r) rates g.candidate k r.encounter.known.own_in_range r.known.accepted.rates c.requires.0 (omega (arith, short)))
 
-pub returns-then-is_hit : goal.returns-then-is_hit
-returns-then-is_hit g c =
+pub returns-then-violates_on : goal.returns-then-violates_on
+returns-then-violates_on g c =
     let r = c.args.round.now in
     let rates = rates_of (settings_in r) in
     let k = c.args.branch.now.leaves in
     let short : c.args.branch.now.leaves < 180 = omega (arith, c.requires.1.1.0, r.known.in_range.lookahead_most) in
     let own = own_by_branch (own_in r) rates g.candidate c.args.branch.now c.args.place.now c.own_leg_of-first.result c.requires.1.0 c.requires.1.1.1.0 short c.requires.1.1.1.1
     c.own_leg_of-first.ensures in
-    let tested = leg_tested (settings_in r) (own_in r) g.candidate (aircraft_in r) r.level.volume k c.own_leg_of-first.result c.relative_from.result c.is_hit.result own
-    c.relative_from.ensures.value c.is_hit.ensures in
+    let tested = leg_tested (settings_in r) (own_in r) g.candidate (aircraft_in r) r.level.volume k c.own_leg_of-first.result c.relative_from-seen.result c.violates_on.result own
+    c.relative_from-seen.ensures.value c.violates_on.ensures in
     let f = from_next (settings_in r) (own_in r) g.candidate (aircraft_in r) r.level.volume k r.level.lookahead c.requires.1.1.0 in
-    ((λ _. f.1 (inl (tested.0 c.if-is_hit.true))), (λ _. refl))
+    ((λ _. f.1 (inl (tested.0 c.if-violates_on.true))), (λ _. refl))
 
 next : (n s : ℕ) → n < s → s ≤ n + 1 → s ≡ n + 1
 next n s a b = omega (arith, a, b)
@@ -66,12 +66,12 @@ returns g c =
     let short : c.args.branch.now.leaves < 180 = omega (arith, c.requires.1.1.0, r.known.in_range.lookahead_most) in
     let own = own_by_branch (own_in r) rates g.candidate c.args.branch.now c.args.place.now c.own_leg_of-first.result c.requires.1.0 c.requires.1.1.1.0 short c.requires.1.1.1.1
     c.own_leg_of-first.ensures in
-    let tested = leg_tested (settings_in r) (own_in r) g.candidate (aircraft_in r) r.level.volume k c.own_leg_of-first.result c.relative_from.result c.is_hit.result own
-    c.relative_from.ensures.value c.is_hit.ensures in
+    let tested = leg_tested (settings_in r) (own_in r) g.candidate (aircraft_in r) r.level.volume k c.own_leg_of-first.result c.relative_from-seen.result c.violates_on.result own
+    c.relative_from-seen.ensures.value c.violates_on.ensures in
     let f = from_next (settings_in r) (own_in r) g.candidate (aircraft_in r) r.level.volume k r.level.lookahead c.requires.1.1.0 in (
       (λ t. f.1 (inr (c.meets_on_rest.ensures.0 t))),
       (λ m. ⊎_elim
-          (λ v. let t = tested.1 v in absurd (cc (t, c.if-is_hit.false)))
+          (λ v. let t = tested.1 v in absurd (cc (t, c.if-violates_on.false)))
           (λ b. c.meets_on_rest.ensures.1 b)
           (f.0 m)),
     )

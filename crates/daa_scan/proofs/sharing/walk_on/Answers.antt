@@ -6,12 +6,16 @@ use Rattle.daa_scan.proofs.sharing.walk_on.Goals as goal
 pub loop-walked-init : goal.loop-walked-init
 loop-walked-init c = record { none = c.requires.trail.none; trail = c.requires.trail; clear = c.if-trail.false; last = c.min-last.ensures; end = refl }
 
-pub returns-then-violates_on-clause-trail : goal.returns-then-violates_on-clause-trail
-returns-then-violates_on-clause-trail c = record { none = c.loop-walked.invariant.none; hit = λ _. c.violates_on.ensures.0 c.if-violates_on.true; later = c.loop-walked.invariant.trail.later }
+pub returns-then-violates_on_trunk-clause-trail : goal.returns-then-violates_on_trunk-clause-trail
+returns-then-violates_on_trunk-clause-trail c = record {
+  none = c.loop-walked.invariant.none;
+  hit = λ _. c.violates_on_trunk.ensures.0 c.if-violates_on_trunk.true;
+  later = c.loop-walked.invariant.trail.later;
+}
 
 pub loop-walked-preserved : goal.loop-walked-preserved
 loop-walked-preserved c = record {
-  none = below_more _ _ c.loop-walked.invariant.none (λ v. let t = c.violates_on.ensures.1 v in cc (t, c.if-violates_on.false));
+  none = below_more _ _ c.loop-walked.invariant.none (λ v. let t = c.violates_on_trunk.ensures.1 v in cc (t, c.if-violates_on_trunk.false));
   trail = c.loop-walked.invariant.trail;
   clear = c.loop-walked.invariant.clear;
   last = c.loop-walked.invariant.last;

@@ -1,3 +1,0 @@
-pub mod PairBounds
-pub mod MayMeet
-pub mod Offset
