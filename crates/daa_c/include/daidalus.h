@@ -7,7 +7,7 @@
  * frees it before it returns; it stands in an archive of its own, libdaa_toml.a, and the others in libdaa_c.a, which asks
  * for no allocator.
  *
- * Stack, as the machine code has it: daa_decide and daa_report take less than 208 KB, the others but daa_read less than 64 KB.
+ * Stack, as the machine code has it: daa_decide and daa_report take less than 212 KB, the others but daa_read less than 72 KB.
  * As measured, daa_read takes up to 1600 KB of stack, on 64-bit ARM 2600, where a text is made to nest as deep as TOML's
  * reader goes; of a usual configuration less than 16 KB. So read texts that others may have written in a thread with 4 MB.
  *
