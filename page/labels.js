@@ -15,6 +15,8 @@
   const AWAY = 25; // .. for each unit of length from the symbol, where none of the places round it is free
   const LITTLE = 40; // so small an area may be covered by chance
   const GRID = 6; // how far the places within the ring are from each other
+  const [COARSE, CROWDED] = [4 * GRID, 8 * GRID]; // .. at first, and where there is no room
+  const MOST_TRIED = 3000; // places within the ring: where so many do not suffice for the labels of a drawing, there is no room
 
   /** @type {(a: Box, b: Box) => number} */
   const overlap = (a, b) => Math.max(0, Math.min(a.x + a.wide, b.x + b.wide) - Math.max(a.x, b.x))
@@ -44,6 +46,8 @@
   }
 
   class Labels {
+    tried = 0; // places within the ring
+
     /** Over a disc; boxes and lines are what is drawn there already.
      *  @param {Point & { radius: number }} disc
      *  @param {Box[]} boxes
@@ -87,13 +91,14 @@
       const { x: cx, y: cy, radius } = this.disc;
       /** @type {Placed | null} */
       let best = null;
-      for (const step of [4 * GRID, GRID]) { // a coarse look first, after which most places are too far away
-        for (let y = cy - radius; y < cy + radius - tall; y += step) {
+      for (const step of this.tried < MOST_TRIED ? [COARSE, GRID] : [CROWDED]) { // a coarse look first, after which most places are too far away
+        for (let y = cy - radius; y < cy + radius - tall && (step > GRID || this.tried < MOST_TRIED); y += step) {
           for (let x = cx - radius; x < cx + radius - wide; x += step) {
             const box = { x, y, wide, tall };
             const end = nearest(symbol, box);
             const away = AWAY * Math.hypot(end.x - symbol.x, end.y - symbol.y);
             if ((best && away >= best.cost) || this.cornersOff(box)) continue;
+            this.tried += 1;
             /** @type {number} */
             const cost = away + this.cost(box, best ? best.cost - away : Infinity);
             if (!best || cost < best.cost) best = { box, cost, right: Math.sign(end.x - symbol.x), far: 1 };
@@ -114,8 +119,10 @@
      *  @type {(box: Box, most?: number) => number} */
     cost(box, most = Infinity) {
       let sum = OFF_DISC * this.cornersOff(box);
+      const [right, foot] = [box.x + box.wide, box.y + box.tall];
       for (const other of this.boxes) {
         if (sum >= most) return sum;
+        if (other.x >= right || other.y >= foot || other.x + other.wide <= box.x || other.y + other.tall <= box.y) continue;
         sum += (other.weight ?? 1) * OVER_TEXT * overlap(box, other);
       }
       for (const line of this.lines) {

@@ -149,6 +149,7 @@
   addEventListener("beforeprint", () => {
     state.paper = true;
     paint();
+    paintParts(Infinity); // a sheet waits for nothing
   });
   addEventListener("afterprint", () => {
     state.paper = false;
@@ -164,27 +165,62 @@
     } else if (!late) late = setTimeout(() => { late = 0; paint(); }, SOON);
   }
 
-  // ---- painting
+  // ---- painting: the clock, the axis, the sentence and the first display at once, then the rest part by part. Where time is up, what is left is
+  // painted after the next frame, so that the page is never dead for long.
+
+  const AT_ONCE = 15; // ms after which no further part is begun
+
+  const PARTS = [() => paintDisplay(1), () => { paintTold(); ui.paintTable(); ui.paintForm(); }, () => ui.paintReport(),
+    () => { ui.paintProfile(); ui.prepareSheet(); ui.paintWhatIf(); }];
+  let [due, next] = [0, 0]; // how many parts are to be painted, and which comes next: each has its turn, however fast moments change
+  let of = ""; // what is painted
+  let goesOn = false;
+  /** @type {Size[]} */
+  let sizes = [];
+
+  const stampOfAll = () => shownViews().map(stampOf).join(" ");
 
   function paint() {
     if (!state.current) return;
+    const end = performance.now() + AT_ONCE;
     document.querySelector("main").classList.toggle("compare", state.compare);
-    const figures = document.querySelectorAll("figure");
+    const figures = [...document.querySelectorAll("figure")];
     figures[1].hidden = !state.compare; // before any is measured
     follow();
-    shownViews().forEach((view, place) => paintView(figures[place], view));
-    ui.paintBar();
-    paintTold();
-    ui.paintTable();
-    ui.paintForm();
-    ui.paintReport();
-    ui.paintSummary();
-    ui.paintProfile();
-    ui.prepareSheet();
-    ui.paintWhatIf();
+    shownViews().forEach((view, place) => paintCaption(figures[place], view));
+    sizes = figures.map((figure) => sizeOf(figure.querySelector("svg"))); // while little is changed, since all of that has to be laid out
     ui.paintTime();
-    document.body.dataset.settled = shownViews().every(isAnswered) ? "yes" : "no";
-    if (ui.painted) ui.painted();
+    ui.paintBar();
+    ui.paintSummary();
+    paintDisplay(0);
+    const isBehind = due > 0;
+    [due, of] = [PARTS.length, stampOfAll()];
+    if (isBehind) paintPart();
+    if (!goesOn) paintParts(end);
+  }
+
+  function paintPart() {
+    PARTS[next]();
+    next = (next + 1) % PARTS.length;
+    due -= 1;
+  }
+
+  /** Paints the parts that are due until a time, and goes on later with those that are left.
+   *  @type {(end: number) => void} */
+  function paintParts(end) {
+    while (due && performance.now() < end) paintPart();
+    document.body.dataset.settled = !due && shownViews().every(isAnswered) ? "yes" : "no";
+    if (!due) ui.painted?.();
+    else if (!goesOn) {
+      goesOn = true;
+      requestAnimationFrame(() => setTimeout(() => { // the browser shows first what is painted
+        goesOn = false;
+        if (!due || of !== stampOfAll()) return; // what came since is painted with its answer
+        const end = performance.now() + AT_ONCE;
+        paintPart();
+        paintParts(end);
+      }));
+    }
   }
 
   /** How large a picture is drawn: as large as its place, and on paper in a shape of its own.
@@ -216,11 +252,12 @@
   /** @type {(most: number) => number} */
   const leastRange = (most) => RANGES_NM.find((range) => range > most) || RANGES_NM[RANGES_NM.length - 1];
 
-  /** @type {(figure: HTMLElement, view: Display) => void} */
-  function paintView(figure, view) {
-    paintCaption(figure, view);
-    const svg = figure.querySelector("svg");
-    const size = sizeOf(svg);
+  /** @type {(place: number) => void} */
+  function paintDisplay(place) {
+    const view = shownViews()[place];
+    if (!view) return;
+    const svg = document.querySelectorAll("figure")[place].querySelector("svg");
+    const size = sizes[place];
     if (size.width < 50 || size.height < 50) return;
     view.drawn = draw(svg, lookOf(view), modelOf(view), size);
     const said = saidOf(view);
