@@ -149,7 +149,7 @@
   addEventListener("beforeprint", () => {
     state.paper = true;
     paint();
-    paintParts(Infinity); // a sheet waits for nothing
+    if (due) paintParts(Infinity); // a sheet waits for nothing
   });
   addEventListener("afterprint", () => {
     state.paper = false;
