@@ -106,6 +106,9 @@ class Browser:
 
     # Events.
 
+    def actions(self):
+        return ActionChains(self.driver)
+
     def one(self, selector):
         return self.driver.find_element(By.CSS_SELECTOR, selector)
 
@@ -230,12 +233,15 @@ class Browser:
 
 class Chromium(Browser):
     logs = ("browser",)
+    traced = ""  # what it writes down of its own work, for the log "performance"
 
     def start(self):
         options = webdriver.ChromeOptions()
         for word in ("--headless=new", "--no-sandbox", "--disable-gpu", "--hide-scrollbars", "--force-color-profile=srgb", f"--user-data-dir={self.folder}/profile"):
             options.add_argument(word)
         options.set_capability("goog:loggingPrefs", dict.fromkeys(self.logs, "ALL"))
+        if self.traced:
+            options.add_experimental_option("perfLoggingPrefs", {"enableNetwork": False, "enablePage": False, "traceCategories": self.traced})
         driver = webdriver.Chrome(options=options)
         driver.execute_cdp_cmd("Browser.setDownloadBehavior", {"behavior": "allow", "downloadPath": self.downloads})
         return driver

@@ -203,6 +203,8 @@ MUTANTS = [
     ("what is left is left while moments change", "state.js", "if (isBehind) paintPart();", "", "test_alive.Parts.test_each_part_has_its_turn_however_fast_moments_change"),
     ("labels look for a place until all were tried", "labels.js", "const MOST_TRIED = 3000;", "const MOST_TRIED = Infinity;",
      "test_alive.Parts.test_labels_look_for_a_place_for_a_while_only"),
+    ("the page itself reads a long file", "load.js", "const LARGE = 50000;", "const LARGE = Infinity;",
+     "test_tasks.Tasks.test_no_task_takes_longer_than_a_tenth_of_a_second"),
     ("what holds more than a link may is packed", "link.js", "if (!bytes || held.length > MOST_HELD)", "if (held.length > MOST_HELD)",
      "test_types.Types.test_each_script_is_checked"),
     ("a slider's least value is written with a minus", "handles.js", "least: told(LIMITS[kind][0]),", "least: shownValue(kind, LIMITS[kind][0]),",
