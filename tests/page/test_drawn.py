@@ -217,7 +217,7 @@ class Drawn(Display):
             self.assertAlmostEqual(self.radius(*self.places["v:"]), 300 * seconds / 3600 / range_nm * self.g["radius"], delta=1)
             self.assertIn(f"{range_nm} NM · north up · {seconds} s ahead", [text for text, *_ in self.texts("head")])
         keys = " ".join(text_of(os.path.join(Page.folder, "index.html")).split())
-        self.assertIn("where each will be after 60 seconds; 30 at a range below 6 NM, 15 below 3 NM, 5 below 1.5 NM", keys)
+        self.assertIn("where each aircraft will be after 60 seconds; 30 at a range below 6 NM, 15 below 3 NM, 5 below 1.5 NM", keys)
 
     def test_an_aircraft_out_of_range_stands_at_the_rim(self):
         """In its direction, 141.4 NM away, small and without a velocity; one just within the range is as all others."""
