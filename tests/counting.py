@@ -18,7 +18,7 @@ PACKAGES = {"cc": "gcc", "c++": "g++", "cargo": "cargo", "node": "nodejs", "chro
             "aarch64-linux-gnu-gcc": "gcc-aarch64-linux-gnu", "qemu-aarch64": "qemu-user", "parallel": "parallel", "jq": "jq",
             "pkg-config": "pkg-config", "cmake": "cmake", "make": "make", "tsc": "node-typescript", "dpkg-deb": "dpkg", "man": "man-db",
             "munged": "munge", "slurmctld": "slurmctld", "slurmd": "slurmd", "sbatch": "slurm-client",
-            "dump1090-mutability": "dump1090-mutability"}
+            "dump1090-mutability": "dump1090-mutability", "tmux": "tmux"}
 MODULES = {"selenium": "python3-selenium", "distributed": "python3-distributed"}  # Debian's package of each module
 DAEMONS = ("munged", "slurmctld", "slurmd")  # which lie in folders of the administrator
 # What a compiler's package only recommends: the C library of the other processor.
@@ -40,7 +40,7 @@ def is_there(command):
     path = shutil.which(command, path=PLACES if command in DAEMONS else None)
     if not path or command in ("sbatch", "dump1090-mutability"):  # (sbatch tells no version where there is no cluster, the other none at all)
         return bool(path)
-    asked = subprocess.run([path, "-V" if command.startswith("slurm") else "--version"], stdin=subprocess.DEVNULL, capture_output=True)
+    asked = subprocess.run([path, "-V" if command.startswith(("slurm", "tmux")) else "--version"], stdin=subprocess.DEVNULL, capture_output=True)
     return asked.returncode == 0 and (command != "parallel" or asked.stdout.startswith(b"GNU parallel"))
 
 

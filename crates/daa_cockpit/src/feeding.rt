@@ -1,15 +1,18 @@
-//! Publishing the moments of a text.
+//! Publishing the moments of lines as they come.
 
 ghost use Rattle.std.specs.Prelude.{◌≡◌, ◌+◌, ◌^◌, ◌<◌, length, IfOk, IfSome, OnOk, Ok};
+ghost use Rattle.std.specs.Iterator.{Drains};
 ghost use Rattle.daa_state.specs.InRange.{IsPictureInRange};
-ghost use Rattle.daa_state.specs.MomentStep.{stepped};
+ghost use Rattle.daa_state.specs.MomentStep.{stepped, finished};
 ghost use Rattle.daa_screen.specs.Story.{with_picture};
 ghost use Rattle.daa_cockpit.specs.Inside.Reads.{read, line_step, read_more, pictures_after};
 
 use anyhow::{Result, bail};
 use daa_screen::Feed;
 use daa_state::{LineFault, Moments, Picture, read_line};
+use std::io;
 use std::sync::Wait;
+use std::sync::atomic::{AtomicBool, Ordering};
 
 /// The picture, if the line ends a moment.
 fn take_line(moments: &mut Moments, line: &str) -> std::result::Result<Option<Picture>, LineFault>
@@ -47,20 +50,41 @@ fn publish_line<W: Wait>(rt: &W, moments: &mut Moments, line: &str, feed: &mut F
     }
 }
 
-/// Publishes the picture of each moment that a line of this text ends, in the order of the lines,
-/// and at `Ok` nothing else. `Err` is for a line that is refused, a last moment that does not end,
-/// and no room for a picture; no clause says so, nor what is published by then.
-pub fn publish_moments<W: Wait>(rt: &W, states: &str, feed: &mut Feed) -> Result<()>
-    ensures published { OnOk result
-        (pictures_after feed.old.story.pictures states.now ≡ Ok feed.new.story.pictures) }
-    ensures feed { feed.new.story.feed ≡ feed.old.story.feed }
+/// `Err` says that the last moment does not end.
+fn finish(moments: &Moments) -> Result<()>
+    ensures { OnOk result (finished moments.now ≡ Ok tt) }
 {
-    let mut moments = Moments::new();
-    for line in states.lines() {
-        publish_line(rt, &mut moments, line, feed)?;
-    }
     if moments.finish().is_err() {
         bail!("the last moment does not end");
     }
     Ok(())
+}
+
+/// Publishes the picture of each moment that a line ends, as soon as that line comes, in the order
+/// of the lines, and at `Ok` nothing else. `Err` is for a line that cannot be read or is refused, a
+/// last moment that does not end, no room for a picture, and a screen that has ended the feed; no
+/// clause says so, nor what is published by then.
+pub fn publish_lines<W: Wait, I: Iterator<Item = io::Result<String>>>(
+    rt: &W,
+    lines: &mut I,
+    feed: &mut Feed,
+    ended: &AtomicBool,
+) -> Result<()>
+    requires { I.can_next lines.old }
+    ensures published { OnOk result ((items : _) × Drains I.next_gives lines.old items
+        × (pictures_after feed.old.story.pictures items ≡ Ok feed.new.story.pictures)) }
+    ensures feed { feed.new.story.feed ≡ feed.old.story.feed }
+{
+    let mut moments = Moments::new();
+    for _ in 0..u64::MAX {
+        let Some(line) = lines.next() else {
+            return finish(&moments);
+        };
+        let line = line?;
+        publish_line(rt, &mut moments, line.as_str(), feed)?;
+        if ended.load(Ordering::SeqCst) {
+            bail!("a screen could not be drawn");
+        }
+    }
+    bail!("there are too many lines");
 }

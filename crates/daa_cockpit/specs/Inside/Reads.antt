@@ -1,6 +1,6 @@
--- What the lines of a text say.
-use Rattle.std.specs.Prelude.{ℕ, List, [], ◌∷◌, ◌++◌, fold, Option, None, Some, Ok}
-use Rattle.std.specs.Str.Lines.{lines}
+-- What the lines of an input say.
+use Rattle.std.specs.Prelude.{ℕ, List, [], ◌∷◌, ◌++◌, fold, Option, None, Some, Result, Ok, Err, String, string_bytes}
+use Rattle.std.specs.declared.alloc.Global.{Global}
 use Rattle.daa_state.specs.Fault.{Checked, ◌>>=◌}
 use Rattle.daa_state.specs.MomentStep.{MomentsState, Stepped, start, step, finished}
 use Rattle.daa_state.specs.WordOf.{word_of}
@@ -33,10 +33,15 @@ read_more before line = do
   next ← line_step before.state line
   Ok (read next.state (with_ended before.pictures next.picture))
 
--- these pictures, and behind them those of the moments that the lines of a text end, in order; or the first fault,
--- which may be that the last moment does not end
-abbrev pub pictures_after : List Picture → List ℕ → Checked (List Picture)
-pictures_after pictures text = do
-  all ← fold read_more (Ok (read start pictures)) (lines text)
+-- a line more was read, if the read did not fail
+abbrev pub read_item : {E : Type 0} → Checked Read → Result (String Global) E → Checked Read
+read_item before (Ok line) = read_more before (string_bytes line)
+read_item before (Err fault) = before
+
+-- these pictures, and behind them those of the moments that these lines end, in order; or the first fault, which may be
+-- that the last moment does not end
+abbrev pub pictures_after : {E : Type 0} → List Picture → List (Result (String Global) E) → Checked (List Picture)
+pictures_after pictures lines = do
+  all ← fold read_item (Ok (read start pictures)) lines
   over ← finished all.state
   Ok all.pictures
