@@ -1,7 +1,7 @@
 //! Publishing the moments of lines as they come.
 
 ghost use Rattle.std.specs.Prelude.{◌≡◌, ◌+◌, ◌^◌, ◌<◌, length, IfOk, IfSome, OnOk, Ok};
-ghost use Rattle.std.specs.Iterator.{Drains};
+ghost use Rattle.std.specs.Iterator.{Drains, IsFinite};
 ghost use Rattle.daa_state.specs.InRange.{IsPictureInRange};
 ghost use Rattle.daa_state.specs.MomentStep.{stepped, finished};
 ghost use Rattle.daa_screen.specs.Story.{with_picture};
@@ -70,7 +70,7 @@ pub fn publish_lines<W: Wait, I: Iterator<Item = io::Result<String>>>(
     feed: &mut Feed,
     ended: &AtomicBool,
 ) -> Result<()>
-    requires { I.can_next lines.old }
+    requires { I.can_next lines.old × IsFinite (I.remaining lines.old) }
     ensures published { OnOk result ((items : _) × Drains I.next_gives lines.old items
         × (pictures_after feed.old.story.pictures items ≡ Ok feed.new.story.pictures)) }
     ensures feed { feed.new.story.feed ≡ feed.old.story.feed }

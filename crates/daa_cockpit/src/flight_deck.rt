@@ -1,7 +1,7 @@
 //! The displays together.
 
 ghost use Rattle.std.specs.Prelude.{◌≡◌, OnOk, Ok};
-ghost use Rattle.std.specs.Iterator.{Drains};
+ghost use Rattle.std.specs.Iterator.{Drains, IsFinite};
 ghost use Rattle.std.specs.List.{All};
 ghost use Rattle.std.specs.Thread.{IsSync};
 ghost use Rattle.daa_cockpit.specs.Inside.Reads.{pictures_after};
@@ -45,7 +45,7 @@ fn publish_and_watch<
     R: Threads + Wait + Print + Clock + Sync,
     I: Iterator<Item = io::Result<String>>,
 >(rt: &R, alloc: Global, lines: &mut I, feed: &mut Feed, displays: &mut [Display]) -> Result<()>
-    requires lines { I.can_next lines.old }
+    requires lines { I.can_next lines.old × IsFinite (I.remaining lines.old) }
     ensures published { OnOk result ((items : _) × Drains I.next_gives lines.old items
         × (pictures_after feed.old.story.pictures items ≡ Ok feed.new.story.pictures)) }
     ensures feed { feed.new.story.feed ≡ feed.old.story.feed }
@@ -55,7 +55,9 @@ fn publish_and_watch<
     let ((), published) = join_mut(
         rt,
         &mut || watch_all(rt, alloc, displays, &ended),
-        &mut || {
+        &mut || -> Result<()>
+            requires { I.can_next lines.now × IsFinite (I.remaining lines.now) }
+        {
             let published = publish_lines(rt, lines, feed, &ended);
             ended.store(true, Ordering::SeqCst);
             published
@@ -91,7 +93,7 @@ pub fn show<R: Threads + Wait + Print + Clock + Sync, I: Iterator<Item = io::Res
     feed: &mut Feed,
     displays: &mut [Display],
 ) -> Result<()>
-    requires lines { I.can_next lines.old }
+    requires lines { I.can_next lines.old × IsFinite (I.remaining lines.old) }
     requires displays { All (λ display. display.screen.feed ≡ feed.old.story.feed) displays.old }
     ensures published { OnOk result ((items : _) × Drains I.next_gives lines.old items
         × (pictures_after feed.old.story.pictures items ≡ Ok feed.new.story.pictures)) }

@@ -7,5 +7,5 @@ use Rattle.daa_cockpit.proofs.flight_deck.catch_up_all.Given as goal
 abbrev pub invariant-loop-display : goal.invariant-loop-display
 invariant-loop-display g l =
     ((place : ℕ) (default : Display) → place < l.display-index
-        → ShowsAll (get_or l.fn.displays place default).engine.settings l.feed.now.story (get_or l.displays place default))
+    → ShowsAll (get_or l.fn.displays place default).engine.settings l.feed.story (get_or l.displays place default))
     × ((place : ℕ) (default : Display) → l.display-index ≤ place → get_or l.displays place default ≡ get_or l.fn.displays place default)
