@@ -1,9 +1,9 @@
 -- What was published once all lines were read.
-use Rattle.std.proofs.Common.{◌≡◌, ℕ, List, [], ◌∷◌, ◌++◌, fold, refl, ap, ◌∙◌, Result, Ok, String, Global, string_bytes}
+use Rattle.std.proofs.Common.{◌≡◌, ℕ, List, [], ◌∷◌, ◌++◌, fold, ap, ◌∙◌, Result, Ok, String, Global, string_bytes}
 use Rattle.std.proofs.lemmas.List.Sums.{fold-append}
-use Rattle.daa_state.specs.MomentStep.{MomentsState, start, finished}
+use Rattle.daa_state.specs.MomentStep.{MomentsState, start}
 use Rattle.daa_state.specs.declared.word.Picture.{Picture}
-use Rattle.daa_cockpit.specs.Inside.Reads.{read, read_more, read_item, pictures_after}
+use Rattle.daa_cockpit.specs.Inside.Reads.{read, read_more, read_item}
 
 -- one line more was read
 pub more_published : {E : Type 0} (before some pictures : List Picture) (lines : List (Result (String Global) E)) (item : Result (String Global) E) (line : String Global) (bytes : List ℕ)
