@@ -122,7 +122,7 @@ class NoThread(unittest.TestCase):
 
     def test_a_replay_writes_the_same(self):
         words = [builds.program(), "replay", "--config", os.path.join(TOP, "examples/three_levels.toml")]
-        states = "".join(f"moment {time}\nown 0 0 10000 0 3600 0\ntraffic A 3000 8000 10000 -1350 0 0\nend\n" for time in range(1000)).encode()
+        states = "".join(f"moment {time}\nown 0 0 10000 0 3600 0\ntraffic A 3000 8000 10000 -1350 0 0\nend\n" for time in range(200)).encode()
         with tempfile.TemporaryDirectory() as folder:
             for more in (["--workers", "4"], ["--workers", "4", "--ahead", "4"]):
                 plain, alone = (subprocess.run([*words, *more], input=states, env=environment, capture_output=True, timeout=LONG)
