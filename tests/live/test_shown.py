@@ -57,6 +57,21 @@ class Stage:
         self.server.server_close()
 
 
+class Slow(dict):
+    """Files of a server, and one more that comes after nine seconds: a script that waits for it stands, and takes no processor's time."""
+
+    PATH = "/slow.js"
+
+    def __contains__(self, path):
+        return path == self.PATH or super().__contains__(path)
+
+    def __getitem__(self, path):
+        if path != self.PATH:
+            return super().__getitem__(path)
+        time.sleep(9)
+        return b""
+
+
 def text_of(second, lines=LINES):
     return f"moment {second}\n{lines}end\n"
 
@@ -101,11 +116,15 @@ class LivePage(unittest.TestCase):
 
     @classmethod
     def setUpClass(cls):
+        if LivePage.browser is None:
+            cls.open_browser()
+            unittest.addModuleCleanup(cls.close_browser)
+
+    @staticmethod
+    def open_browser():
         counting.need("chromium", "chromedriver")
         counting.need_module("selenium")
-        if LivePage.browser is None:
-            LivePage.browser = Watched()
-            unittest.addModuleCleanup(cls.close_browser)
+        LivePage.browser = Watched()
 
     @staticmethod
     def close_browser():
@@ -227,10 +246,11 @@ class Shown(LivePage):
         """While the page's script stands for nine seconds, what the browser shows becomes red all over, by its own pictures with their times."""
         self.feed()
         self.await_banner("live", "the same 2 times")
+        self.stage.server.files = Slow(self.stage.server.files)
         self.browser.driver.get_log("performance")
-        self.browser.driver.execute_cdp_cmd("Page.startScreencast", {"format": "png"})
+        self.browser.driver.execute_cdp_cmd("Page.startScreencast", {"format": "png", "maxWidth": 480, "maxHeight": 300})
         self.browser.js("""daa.stood = [Date.now() / 1000];
-            setTimeout(() => { const end = Date.now() + 9000; while (Date.now() < end); daa.stood.push(Date.now() / 1000); })""")
+            setTimeout(() => { const it = new XMLHttpRequest(); it.open("GET", arguments[0], false); it.send(); daa.stood.push(Date.now() / 1000); })""", Slow.PATH)
         begin, end = wait_for(lambda: (it := self.browser.js("return daa.stood")) and len(it) == 2 and it, "the script goes on")
         self.browser.driver.execute_cdp_cmd("Page.stopScreencast", {})
         told = [json.loads(entry["message"])["message"] for entry in self.browser.driver.get_log("performance")]

@@ -23,7 +23,8 @@ WRONG = (("no curtain", "live.css", "@keyframes down-0 { 0%, 99.9% { opacity: 0 
 
 class Wrong(unittest.TestCase):
     def test_each_wrong_page_fails(self):
-        test_shown.LivePage.setUpClass()
+        test_shown.LivePage.open_browser()  # one for all of them
+        self.addCleanup(test_shown.LivePage.close_browser)
         self.addCleanup(setattr, live_server, "LONG", live_server.LONG)
         self.addCleanup(setattr, test_shown.LivePage, "changes", ())
         live_server.LONG = 15

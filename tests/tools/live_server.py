@@ -25,7 +25,7 @@ def wait_for(act, what):
     while not (found := act()):
         if time.monotonic() > end:
             raise AssertionError(f"it never came that {what}")
-        time.sleep(0.02)
+        time.sleep(0.1)  # (a look at a page takes a hundredth of a second of a processor)
     return found
 
 
