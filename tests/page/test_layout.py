@@ -1,8 +1,8 @@
 """Where things stand in windows of many sizes: nothing is cut, and no text stands on another."""
 import math
 
-from browser import By, IN_FIREFOX
-from page_test import CROWD, FOUR_LEVELS, PageTest, crowd, setUpModule, tearDownModule  # noqa: F401 (unittest calls the last two)
+from browser import IN_FIREFOX
+from page_test import CROWD, FOUR_LEVELS, PageTest, crowd, setUpModule  # noqa: F401 (unittest calls the last one)
 from shared import ENCOUNTER, RECOVERY, text_of
 
 SIZES = ((1024, 700), (1024, 768), (1280, 800), (1920, 1080))
@@ -31,6 +31,15 @@ for (const it of svg.querySelectorAll(".handle[data-key^='p:'] > .grip")) {
 return { frame: box(svg), all };
 """
 
+# The size of the document and of the window, and of selectors each one's boxes of what is to be seen.
+PLACES = """
+const it = document.documentElement, boxOf = (one) => { const b = one.getBoundingClientRect(); return { x: b.x + scrollX, y: b.y + scrollY, width: b.width, height: b.height }; };
+const isSeen = (one) => one.checkVisibility({ opacityProperty: true, visibilityProperty: true }) && one.getClientRects().length > 0;
+return [it.scrollWidth, it.scrollHeight, innerWidth, innerHeight,
+  arguments[0].map((selector) => [...document.querySelectorAll(selector)].filter(isSeen).map((one) => ({ ...boxOf(one), text: one.outerHTML.slice(0, 80) })))];
+"""
+PARTS = ("header", "#displays", "#time", "#axis", "#strip", "#restore", "figcaption [data-do=png]", "#panel", "#summary", "#aircraft tbody tr:nth-child(2)")
+
 
 def overlap(a, b):
     return max(0, min(a["right"], b["right"]) - max(a["x"], b["x"])) * max(0, min(a["bottom"], b["bottom"]) - max(a["y"], b["y"]))
@@ -39,13 +48,12 @@ def overlap(a, b):
 class Layout(PageTest):
     def check_fits(self):
         """The document is no larger than the window, and no control stands outside of it; the panel shows its first aircraft."""
-        wide, tall, inner_wide, inner_tall = self.page.js("const it = document.documentElement; return [it.scrollWidth, it.scrollHeight, innerWidth, innerHeight]")
+        wide, tall, inner_wide, inner_tall, found = self.page.js(PLACES, PARTS)
         self.assertLessEqual(wide, inner_wide)
         self.assertLessEqual(tall, inner_tall)
-        for selector in ("header", "#displays", "#time", "#axis", "#strip", "#restore", "figcaption [data-do=png]", "#panel", "#summary", "#aircraft tbody tr:nth-child(2)"):
-            shown = [it for it in self.page.driver.find_elements(By.CSS_SELECTOR, selector) if it.is_displayed()]
-            self.assertTrue(shown, selector)
-            for box in (it.rect for it in shown):
+        for selector, boxes in zip(PARTS, found):
+            self.assertTrue(boxes, selector)
+            for box in boxes:
                 self.assertTrue(box["x"] >= 0 and box["y"] >= 0 and box["x"] + box["width"] <= inner_wide + 1 and box["y"] + box["height"] <= inner_tall + 1, (selector, box))
 
     def check_display(self, view=0):
@@ -95,9 +103,10 @@ class Layout(PageTest):
                 with self.subTest(size=(width, height), compare=compare):
                     self.page.size(width, height)
                     self.page.settle()
-                    self.assertLessEqual(self.page.js("return document.documentElement.scrollWidth"), width)
-                    for it in self.page.driver.find_elements(By.CSS_SELECTOR, "header > *, .bar > *, figcaption > *, #panel button"):
-                        self.assertTrue(not it.is_displayed() or it.rect["x"] >= 0 and it.rect["x"] + it.rect["width"] <= width, it.get_attribute("outerHTML"))
+                    wide, *_, [boxes] = self.page.js(PLACES, ["header > *, .bar > *, figcaption > *, #panel button"])
+                    self.assertLessEqual(wide, width)
+                    for box in boxes:
+                        self.assertTrue(box["x"] >= 0 and box["x"] + box["width"] <= width, box)
                     for view in (0, 1) if compare else (0,):
                         _, bad = self.check_display(view)
                         self.assertEqual(bad, [])
