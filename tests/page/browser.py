@@ -1,4 +1,4 @@
-"""The page in a browser, Chromium or Firefox: one for all tests of a module, driven by real events, and what it shows."""
+"""The page in a browser, Chromium or Firefox, driven by real events, and what it shows."""
 import base64
 import json
 import os
@@ -49,11 +49,16 @@ class Browser:
         self.downloads = os.path.join(self.folder, "downloads")
         os.mkdir(self.downloads)
         self.driver = self.start()
-        self.driver.set_script_timeout(LONG)
+        self.wait_at_most(LONG)
 
     def close(self):
         self.driver.quit()
         shutil.rmtree(self.folder, ignore_errors=True)
+
+    def wait_at_most(self, seconds):
+        """Sets after how many seconds what has not come is given up."""
+        self.long = seconds
+        self.driver.set_script_timeout(seconds)
 
     # Opening.
 
@@ -71,11 +76,11 @@ class Browser:
         self.driver.get(pathlib.Path(Page.folder, "index.html").resolve().as_uri() + after)
 
     def wait(self, condition, what=""):
-        end = time.monotonic() + LONG
+        end = time.monotonic() + self.long
         while not self.js(f"return Boolean({condition})"):
             if time.monotonic() > end:
                 raise AssertionError(f"it never came that {what or condition}")
-            time.sleep(0.02)
+            time.sleep(0.05)
 
     def settle(self):
         self.driver.execute_async_script(SETTLE)
@@ -92,7 +97,7 @@ class Browser:
 
     def expect_a_problem(self):
         """Waits until the console has told of an error."""
-        end = time.monotonic() + LONG
+        end = time.monotonic() + self.long
         while not self.problems():
             if time.monotonic() > end:
                 raise AssertionError("the console tells of no error")
@@ -184,7 +189,7 @@ class Browser:
             self.keys("#axis", key * abs(place - at))
 
     def downloaded(self, ending):
-        end = time.monotonic() + LONG
+        end = time.monotonic() + self.long
         while time.monotonic() < end:
             found = [name for name in os.listdir(self.downloads) if name.endswith(ending)]
             if found:
@@ -237,7 +242,8 @@ class Chromium(Browser):
 
     def start(self):
         options = webdriver.ChromeOptions()
-        for word in ("--headless=new", "--no-sandbox", "--disable-gpu", "--hide-scrollbars", "--force-color-profile=srgb", f"--user-data-dir={self.folder}/profile"):
+        for word in ("--headless=new", "--no-sandbox", "--disable-gpu", "--hide-scrollbars", "--force-color-profile=srgb", f"--user-data-dir={self.folder}/profile",
+                     "--disable-features=PreloadTopChromeWebUI"):  # (pages of the browser's own, which nobody sees)
             options.add_argument(word)
         options.set_capability("goog:loggingPrefs", dict.fromkeys(self.logs, "ALL"))
         if self.traced:

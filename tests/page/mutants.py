@@ -6,12 +6,14 @@ import shutil
 import tempfile
 import unittest
 
+import browser
 import page_test
 from browser import HAS_BROWSER, HOW
 from page_test import PageTest
 from shared import Page, text_of
 
 PARTS = 4  # so many modules try them, which may run side by side
+SOON = 15  # seconds after which what a wrong page does not come to counts as a failure of it
 
 # The bug, the file, the text that is there once, what stands in its place, and the test.
 MUTANTS = [
@@ -232,13 +234,9 @@ class WrongPages(unittest.TestCase):
     part = None
 
     def setUp(self):
-        """One browser for all of them."""
         page_test.setUpModule()
-        self.held, PageTest.own = PageTest.own, None
-
-    def tearDown(self):
-        PageTest.own = self.held
-        page_test.tearDownModule()
+        self.addCleanup(PageTest.browser.wait_at_most, browser.LONG)
+        PageTest.browser.wait_at_most(SOON)
 
     def check_each(self):
         """The named test fails on the wrong page, and not for want of what it needs; on the page itself it passes elsewhere."""

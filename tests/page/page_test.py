@@ -1,4 +1,5 @@
-"""What the tests in a browser share: one browser for all of a module, the page opened anew for each test, and what must be shown of a moment."""
+"""What the tests in a browser share: one browser, the page opened anew for each test, and what must be shown of a moment."""
+import atexit
 import math
 import unittest
 
@@ -29,22 +30,17 @@ def crowd():
 
 
 def setUpModule():
-    """One browser for all tests; that of a module that holds one already is used on."""
+    """One browser for all modules of a run, which the first of them starts: a start takes as long as three or four tests."""
     if HAS_BROWSER and not PageTest.browser:
-        PageTest.browser = PageTest.own = browser()
-
-
-def tearDownModule():
-    if PageTest.own:
-        PageTest.own.close()
-        PageTest.browser = PageTest.own = None
+        PageTest.browser = browser()
+        atexit.register(PageTest.browser.close)
 
 
 @unittest.skipUnless(HAS_BROWSER, HOW)
 class PageTest(unittest.TestCase):
     """A test on the page, opened anew; at its end the console has told no error."""
 
-    browser = own = None
+    browser = None
     maxDiff = 3000
 
     def setUp(self):

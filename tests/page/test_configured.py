@@ -1,6 +1,6 @@
 """Configurations edited in a browser, and what is told of their faults."""
 from browser import Keys
-from page_test import PageTest, setUpModule, tearDownModule  # noqa: F401 (unittest calls the last two)
+from page_test import PageTest, setUpModule  # noqa: F401 (unittest calls the last one)
 from shared import RECOVERY, THREE_LEVELS, text_of
 
 

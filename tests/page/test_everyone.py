@@ -4,7 +4,7 @@ import re
 import zlib
 
 from browser import ActionChains, Keys
-from page_test import FOUR_LEVELS, PageTest, crowd, setUpModule, tearDownModule  # noqa: F401 (unittest calls the last two)
+from page_test import FOUR_LEVELS, PageTest, crowd, setUpModule  # noqa: F401 (unittest calls the last one)
 from shared import ENCOUNTER, THREE_LEVELS, bytes_of, moments_of, replayed
 
 CONTRAST = """

@@ -3,7 +3,7 @@ import re
 import unittest
 
 from browser import ActionChains, By, IN_FIREFOX, Keys, ScrollOrigin
-from page_test import PageTest, setUpModule, tearDownModule  # noqa: F401 (unittest calls the last two)
+from page_test import PageTest, setUpModule  # noqa: F401 (unittest calls the last one)
 from shared import ENCOUNTER, THREE_LEVELS, bytes_of, moments_of, replayed
 
 

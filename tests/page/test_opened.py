@@ -3,7 +3,7 @@ import os
 import re
 import xml.etree.ElementTree
 
-from page_test import FOUR_LEVELS, PageTest, setUpModule, tearDownModule  # noqa: F401 (unittest calls the last two)
+from page_test import FOUR_LEVELS, PageTest, setUpModule  # noqa: F401 (unittest calls the last one)
 from shared import ENCOUNTER, EXAMPLES, RECOVERY, THREE_LEVELS, bands_of, bytes_of, moments_of, replayed, tool
 
 

@@ -2,7 +2,7 @@
 import re
 
 from browser import ActionChains
-from page_test import FOUR_LEVELS, PageTest, crowd, setUpModule, tearDownModule  # noqa: F401 (unittest calls the last two)
+from page_test import FOUR_LEVELS, PageTest, crowd, setUpModule  # noqa: F401 (unittest calls the last one)
 from shared import ENCOUNTER, RECOVERY, THREE_LEVELS, bytes_of, levels_of, moments_of, moments_in, replayed, text_of, tool
 
 

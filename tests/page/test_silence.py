@@ -1,7 +1,7 @@
 """Comments `# no moment: WHY`: what the page tells of a time of which nothing is known."""
 import unittest
 
-from page_test import PageTest, setUpModule, tearDownModule  # noqa: F401 (one browser for the module)
+from page_test import PageTest, setUpModule  # noqa: F401 (unittest calls the last one)
 
 MOMENT = "moment {}\nown 0 0 10000 0 3600 0\ntraffic AMBER 3000 8000 10000 -1350 0 0\nend\n"
 STATES = ("# clock utc\n# no moment: not yet heard\n" + MOMENT.format(100) + MOMENT.format(101) + "# no moment: the decoder is gone\n#\tno  moment: once more\n"

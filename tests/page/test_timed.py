@@ -5,7 +5,7 @@ import os
 import shutil
 import tempfile
 
-from page_test import PageTest, setUpModule, tearDownModule  # noqa: F401 (unittest calls the last two)
+from page_test import PageTest, setUpModule  # noqa: F401 (unittest calls the last one)
 from shared import ENCOUNTER, THREE_LEVELS, TOP, Page, bytes_of, moments_of, replayed, text_of
 
 LONGEST = [os.path.join(TOP, "bench", "worst_moments", "wait", f"worst.{end}") for end in ("toml", "states")]
