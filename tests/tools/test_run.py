@@ -72,6 +72,19 @@ class Run(ToolTest):
             self.part(f"tools/{mine}", f": >begun.{mine}; for _ in $(seq 500); do [ -e begun.{other} ] && echo 1 passed, 0 failed && exit; sleep 0.02; done")
         self.assertEqual(self.ended("--jobs", "2")[1][-1], "2 passed, 0 failed")
 
+    def test_parts_that_wait_take_no_place(self):
+        """One that waits until two others have begun runs beside these, which then need no place of it; by itself it is one of one."""
+        for name in ("trust", "made"):
+            self.part(f"tools/{name}", f": >begun.{name}; for _ in $(seq 500); do [ -e begun.made ] && [ -e begun.trust ] && echo 1 passed, 0 failed && exit; sleep 0.02; done")
+        self.part("tests/clusters", "for _ in $(seq 500); do [ -e begun.made ] && [ -e begun.trust ] && echo 1 passed, 0 failed && exit; sleep 0.02; done")
+        self.assertIn("tests/clusters", run.WAITING)
+        self.assertEqual(self.ended("--jobs", "2")[1][-1], "3 passed, 0 failed")
+
+    def test_one_job_runs_one_part_after_the_other(self):
+        for path in ("tools/made", "tests/clusters"):
+            self.part(path, "mkdir alone && sleep 0.2 && rmdir alone && echo 1 passed, 0 failed")
+        self.assertEqual(self.ended("--jobs", "1")[1][-1], "2 passed, 0 failed")
+
     def test_the_parts_are_told_which_builds_are_tested(self):
         self.part("tests/live_feed", 'echo "$DAIDALUS_BUILT $DAIDALUS_PROGRAM"; echo 0 passed, 1 failed; exit 1')
         self.assertIn(f"{self.folder} /bin/true", self.ended()[1])
@@ -84,8 +97,8 @@ class Run(ToolTest):
         self.assertEqual({it for it in found if it.count("/") == 1}, scripts - {"tests/run", "tests/toolchain", "tests/page_module"} | made)
         for folder in ("tests/front", "tests/page", "tests/tools"):
             modules = {it.name.removesuffix(".py") for it in os.scandir(f"{TOP}/{folder}") if it.name.startswith("test_")}
-            self.assertEqual({it.split()[1] for it in run.parts() if it.startswith(folder)}, modules)
-        self.assertLessEqual(set(run.LONGEST), set(run.parts()))
+            self.assertEqual(sorted(name for it in run.parts() if it.startswith(folder) for name in it.split()[1:]), sorted(modules))
+        self.assertLessEqual({*run.WAITING, *run.LONGEST}, set(run.parts()))
 
 
 if __name__ == "__main__":
