@@ -10,7 +10,8 @@ import counting
 from shared import HERE, Page
 from test_files import MADE, files
 
-OPTIONS = {"allowJs": True, "checkJs": False, "noEmit": True, "strict": True, "target": "es2022", "lib": ["es2022", "dom", "dom.iterable"], "types": [], "moduleDetection": "legacy"}
+OPTIONS = {"allowJs": True, "checkJs": False, "noEmit": True, "strict": True, "target": "es2022", "lib": ["es2022", "dom", "dom.iterable"], "types": [], "moduleDetection": "legacy",
+           "skipDefaultLibCheck": True}  # (TypeScript's own declarations are not what is tested)
 
 
 def scripts():
