@@ -1,4 +1,6 @@
 """The reader of recordings in node, against tools/from_daa."""
+import contextlib
+import io
 import os
 import random
 import re
@@ -7,12 +9,17 @@ import sys
 import tempfile
 import time
 import unittest
+from unittest import mock
 
 from nodes import HOW, NODE, in_node
 from shared import EXAMPLES, moments_in, text_of, tool
 
 sys.path.append(os.path.join(os.path.dirname(EXAMPLES), "tests", "tools"))
 import operators  # noqa: E402 (the folder is no package)
+from common import module  # noqa: E402
+from daidalus_files import status_of  # noqa: E402
+
+TOOL = module("tools/from_daa")
 
 
 # Recordings.
@@ -63,12 +70,14 @@ class Recordings(unittest.TestCase):
     maxDiff = 2000
 
     def from_daa(self, text, own):
+        """What the tool writes, without a process of its own, or None where it refuses the text."""
         with tempfile.NamedTemporaryFile("w", suffix=".daa", encoding="utf-8") as file:
             file.write(text)
             file.flush()
-            words = [os.path.join(os.path.dirname(EXAMPLES), "tools", "from_daa"), file.name, *(["--own", own] if own else [])]
-            done = subprocess.run(words, capture_output=True, text=True)
-            return done.stdout if done.returncode == 0 else None
+            words, out = ["from_daa", file.name, *(["--own", own] if own else [])], io.StringIO()
+            with mock.patch.object(sys, "argv", words), contextlib.redirect_stdout(out), contextlib.redirect_stderr(io.StringIO()):
+                status = status_of("from_daa", TOOL.main)
+            return None if status else out.getvalue()
 
     def test_the_example(self):
         text = text_of(os.path.join(EXAMPLES, "recording.daa"))
