@@ -1,6 +1,6 @@
 // What bench/float and bench/exact have in common: reading a configuration and state lines, drawing the moments of an exercise,
 // and writing a report, as docs/FORMATS.md tells them. It shares nothing with the engine. What is read must be accepted by
-// tools/check: a text that is not is refused in one line, without the causes that the program gives.
+// tools/check, and in format 1 or 2: a text that is not is refused in one line, without the causes that the program gives.
 #pragma once
 #include <array>
 #include <cstdint>
@@ -183,7 +183,7 @@ class States {
             std::string word;
             if (!(fields >> word) || word[0] == '#') continue;
             if (word == "format") {
-                need(!is_open && fields >> form_);
+                need(!is_open && fields >> form_ && form_ <= 2);  // none with bounds
             } else if (word == "moment") {
                 need(!is_open && fields >> moment.time);
                 is_open = true, has_own = false, moment.traffic.clear();

@@ -13,6 +13,12 @@ from recordings.rows import Row
 FEET_PER_MIL = 6.076  # feet in 0.001 nautical miles
 RECORDING_WORDS = {name for column in ("time", "lat", "lon", "alt", "trk", "gs", "vs") for name in COLUMNS[column]["names"]}
 SMALL_SPEED, SMALL_PLACE = 600, 50  # 60 knots and 0.05 nautical miles, in the units of state lines
+METRES_PER_MIL, FOOT = 1.852, 0.3048  # metres in 0.001 nautical miles and in a foot
+LARGE_PLACE = 500  # half a nautical mile
+SMALL_BOUND, SMALL_CLIMB = 5, 15  # half a knot, which no class of ADS-B promises; and less than its vertical speeds are rounded by, in ft/min
+# Radii of the classes of ADS-B: in these units they are such odd numbers that they tell the unit.
+PLACES_IN_METRES, PLACES_IN_FEET = (93, 185, 186, 556, 926, 1852, 3704), (304, 608, 1823, 3038, 6076)
+HEIGHTS_IN_METRES = (45, 150)
 
 
 def first_words(text):
@@ -92,9 +98,12 @@ def another_file(refused, text):
 def advice_on_states(reader, moments, refused, config):
     """Advice on state lines: what their reader found, their ended moments, their refused lines, and the configuration or None."""
     found = [] if moments or refused else ["there is no moment in it"]
-    if any(refusal.code == 3 and "traffic has 8 fields" in refusal.why for refusal in refused):
+    lengths = {refusal.why for refusal in refused if refusal.code == 3}
+    if any("traffic has 8 fields after it and not 7" in why for why in lengths):
         found.append("aircraft with an age, the eighth number, are of format 2: write the line `format 2` before the first moment")
-    units = [*on_speeds(moments), *on_places(moments)]
+    if any(why.startswith(("traffic has 12 fields", "own has 10 fields")) for why in lengths):
+        found.append("lines that end in four bounds are of format 3: write the line `format 3` before the first moment")
+    units = [*on_speeds(moments), *on_places(moments), *on_bounds(moments)]
     unlikely = [] if units else implausible(rows_of(moments, reader.ownship), OWN, False)
     return [*found, *units, *unlikely, *on_what_is_known(moments, refused), *on_candidates(moments, config)]
 
@@ -173,3 +182,42 @@ def on_places(moments):
         return [f"no aircraft is farther than {max(off) / 1000:g} nautical miles from the ownship: places are in 0.001 nautical miles, "
                 f"so {max(off)} mile{'s' * (max(off) > 1)} would be {1000 * max(off)}"]
     return []
+
+
+def on_bounds(moments):
+    """Bounds that look like another unit, or of which half are missing."""
+    bounds = [it.bounds for moment in moments for it in (moment.own, *moment.traffic)]
+    places, heights, speeds, climbs = (sorted({number for number in numbers if number}) for numbers in zip(*bounds)) if bounds else ((),) * 4
+    yield from on_place_bounds(places)
+    if HEIGHTS_IN_METRES[0] in heights and set(heights) <= set(HEIGHTS_IN_METRES):
+        yield (f"bounds of heights are {told_numbers(heights)}, which are metres of ADS-B's classes (GVA): V is in feet, "
+               f"so write {told_numbers(math.ceil(it / FOOT) for it in heights)}")
+    if speeds and speeds[-1] <= SMALL_BOUND:
+        yield (f"no bound of a velocity is above {speeds[-1] / 10:g} knots, which no class of ADS-B promises: S is in 0.1 knot, so {speeds[-1]} "
+               f"knot{'s' * (speeds[-1] > 1)} would be {10 * speeds[-1]}, and {speeds[-1]} m/s {math.ceil(speeds[-1] * 36000 / 1852)}")
+    if climbs and climbs[-1] <= SMALL_CLIMB:
+        yield (f"no bound of a vertical speed is above {climbs[-1]} feet per minute, and reports round by more: W is in ft/min, so {climbs[-1]} "
+               f"feet per second would be {60 * climbs[-1]}")
+    if places and not speeds:
+        yield "places have bounds and no velocity has one: each velocity is taken as exact, so the bounds of places do not grow"
+    if heights and not climbs:
+        yield "heights have bounds and no vertical speed has one: each vertical speed is taken as exact"
+
+
+def on_place_bounds(places):
+    """Metres or feet in place of 0.001 nautical miles."""
+    for unit, worth, classes in (("metres", METRES_PER_MIL, PLACES_IN_METRES), ("feet", FEET_PER_MIL, PLACES_IN_FEET)):
+        found = [it for it in places if it in classes]
+        if found:
+            yield (f"bounds of places are {told_numbers(found)}, which are {unit} of ADS-B's classes (NACp): P is in 0.001 nautical miles, "
+                   f"so write {told_numbers(round(it / worth) for it in found)}")
+            return
+    if places and places[0] >= LARGE_PLACE:
+        yield (f"no bound of a place is below {places[0] / 1000:g} nautical miles, P = {places[0]}: if {places[0]} feet are meant, write "
+               f"{math.ceil(places[0] / FEET_PER_MIL)}, and if metres, {math.ceil(places[0] / METRES_PER_MIL)}")
+
+
+def told_numbers(numbers):
+    """Numbers in words."""
+    *before, last = map(str, numbers)
+    return f"{', '.join(before)} and {last}" if before else last

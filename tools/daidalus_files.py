@@ -320,11 +320,30 @@ def fields_of(line):
 
 X, Y, ALT, TRK, GS, VS = fields_of("own")
 *_, VX, VY, _, AGE = fields_of("traffic")
+BOUNDS = fields_of("bounds")
 ID = Field("ID", 0, 0, "")
+FORMATS = range(1, 4)
 FIELDS = {"moment": [Field("T", 0, 2**32 - 1, "s")], "own": [X, Y, ALT, TRK, GS, VS],
-          "traffic": [ID, X, Y, ALT, VX, VY, VS], "end": [], "format": [Field("N", 1, 2, "")]}
+          "traffic": [ID, X, Y, ALT, VX, VY, VS], "end": [], "format": [Field("N", FORMATS[0], FORMATS[-1], "")]}
 MOST_LINE_BYTES, MOST_AIRCRAFT = 255, 64
 LINES_BETWEEN = 4096  # lines between two looks at how far the reading has come
+
+
+def fields_in(word, form):
+    """The fields after the first word of a state line, in a format."""
+    return FIELDS[word] + [AGE] * (word == "traffic" and form >= 2) + BOUNDS * (word in ("own", "traffic") and form == 3)
+
+
+class Bounds(NamedTuple):
+    """What a report may be off by, in the order of its line: place, height, ground velocity and vertical speed."""
+
+    place: int
+    height: int
+    speed: int
+    climb: int
+
+
+EXACT = Bounds(0, 0, 0, 0)
 
 
 class Own(NamedTuple):
@@ -334,6 +353,7 @@ class Own(NamedTuple):
     trk: int
     gs: int
     vs: int
+    bounds: Bounds = EXACT
 
 
 class Traffic(NamedTuple):
@@ -345,15 +365,16 @@ class Traffic(NamedTuple):
     vy: int
     vs: int
     age: int = 0
+    bounds: Bounds = EXACT
 
 
 whole_traffic = functools.partial(tuple.__new__, Traffic)  # an aircraft of a whole tuple, in less time than by its fields
 
 
 # A line `traffic` that is right by itself but for the ranges of its numbers, in each format.
-USUAL_TRAFFIC = {form: re.compile(rb"[ \t]*traffic[ \t]+([A-Za-z0-9_-]{1,8})" + rb"[ \t]+([+-]?[0-9]{1,10})" * (5 + form) + rb"[ \t]*\r?")
-                 for form in (1, 2)}
-LEAST_OF_TRAFFIC, GREATEST_OF_TRAFFIC = zip(*((field.low, field.high) for field in (X, Y, ALT, VX, VY, VS, AGE)))
+USUAL_TRAFFIC = {form: re.compile(rb"[ \t]*traffic[ \t]+([A-Za-z0-9_-]{1,8})" + rb"[ \t]+([+-]?[0-9]{1,10})" * (len(fields_in("traffic", form)) - 1)
+                                  + rb"[ \t]*\r?") for form in FORMATS}
+LEAST_OF_TRAFFIC, GREATEST_OF_TRAFFIC = zip(*((field.low, field.high) for field in fields_in("traffic", 3)[1:]))
 
 
 class Refusal(NamedTuple):
@@ -466,7 +487,10 @@ class Reader:
                 all(map(operator.le, LEAST_OF_TRAFFIC, numbers)) and all(map(operator.ge, GREATEST_OF_TRAFFIC, numbers))):
             return False
         ids.add(name)
-        self.open.traffic.append(whole_traffic((name, *numbers) if self.form == 2 else (name, *numbers, 0)))
+        if self.form == 3:
+            self.open.traffic.append(Traffic(name, *numbers[:7], Bounds(*numbers[7:])))
+        else:
+            self.open.traffic.append(whole_traffic((name, *numbers, EXACT) if self.form == 2 else (name, *numbers, 0, EXACT)))
         return True
 
     def fault_of_form(self, word, values):
@@ -475,7 +499,7 @@ class Reader:
             hint = "; a byte order mark stands before it: save the file without one" * word.startswith("\xef\xbb\xbf")
             hint = hint or f"; {UTF_16}" * is_utf_16(word.encode("latin-1"))
             return 2, f"{word!a} is none of the words {', '.join(FIELDS)}{hint}"
-        fields = FIELDS[word] + ([AGE] if word == "traffic" and self.form == 2 else [])
+        fields = fields_in(word, self.form)
         if len(values) != len(fields):
             names = " ".join(field.name for field in fields)
             return 3, f"{word} has {len(values)} field{'s' * (len(values) != 1)} after it and not {len(fields)}" + f" ({names})" * bool(names)
@@ -491,7 +515,8 @@ class Reader:
         if word == "own":
             if self.open.own:
                 return 10, f"moment {self.open.time} has an ownship already"
-            self.open.own = Own(*map(int, values))
+            numbers = [*map(int, values)]
+            self.open.own = Own(*numbers[:6], Bounds(*numbers[6:]) if self.form == 3 else EXACT)
         elif word == "traffic":
             return self.add(values)
         else:
@@ -541,17 +566,21 @@ def read_moments(path):
     return [event for event in Reader().read(read_bytes(path)) if isinstance(event, Moment)]
 
 
-def own_line(own):
-    return "own {} {} {} {} {} {}".format(*own)
+def own_line(own, form=1):
+    line = "own %d %d %d %d %d %d" % own[:6]
+    return line + " %d %d %d %d" % own.bounds if form == 3 else line
 
 
 def traffic_line(traffic, form):
-    return "traffic %s %d %d %d %d %d %d %d" % traffic if form == 2 else "traffic %s %d %d %d %d %d %d" % traffic[:7]
+    if form == 1:
+        return "traffic %s %d %d %d %d %d %d" % traffic[:7]
+    line = "traffic %s %d %d %d %d %d %d %d" % traffic[:8]
+    return line + " %d %d %d %d" % traffic.bounds if form == 3 else line
 
 
 def moment_lines(time, own, traffic, form, comments=()):
-    """The lines of a moment in format 1 or 2, with comments after its first one."""
-    return [f"moment {time}", *comments, own_line(own), *[traffic_line(aircraft, form) for aircraft in traffic], "end"]
+    """The lines of a moment in a format, with comments after its first one."""
+    return [f"moment {time}", *comments, own_line(own, form), *[traffic_line(aircraft, form) for aircraft in traffic], "end"]
 
 
 MOST_CAUSE, MOST_NAME = 200, 50  # characters of a cause and of a name in a comment, so that its line is never long
@@ -947,3 +976,32 @@ def whole_from(least, most=9999999999):
 
 
 at_least_one = whole_from(1)
+
+
+def bounds_of_words(word):
+    """The type of a word P,V,S,W: the bounds of a report, in the units of its line."""
+    parts = word.split(",")
+    if len(parts) != len(BOUNDS) or any(fault_of_field("", field, part) for field, part in zip(BOUNDS, parts)):
+        told = ", ".join(f"{field.name} in {field.unit}" for field in BOUNDS)
+        raise argparse.ArgumentTypeError(f"{word} has not the form P,V,S,W of four whole numbers from {BOUNDS[0].low} to {BOUNDS[0].high}: {told}")
+    return Bounds(*map(int, parts))
+
+
+def add_bounds(parser):
+    """The options that give reports bounds."""
+    parser.add_argument("--bounds", metavar="P,V,S,W", type=bounds_of_words,
+                        help="write format 3: the bounds of each aircraft's report, in 0.001 NM, ft, 0.1 kt and ft/min")
+    parser.add_argument("--own-bounds", metavar="P,V,S,W", type=bounds_of_words, help="write format 3: the bounds of the ownship's report")
+
+
+def bounded_lines(given, time, own, traffic, form, comments=()):
+    """The lines of a moment whose reports have the bounds of the command words; without these in this format."""
+    if given.bounds is None and given.own_bounds is None:
+        return moment_lines(time, own, traffic, form, comments)
+    own, bounds = own._replace(bounds=given.own_bounds or EXACT), given.bounds or EXACT
+    return moment_lines(time, own, [it._replace(bounds=bounds) for it in traffic], 3, comments)
+
+
+def format_line(given, form):
+    """The line that says which format follows: that of `bounded_lines`."""
+    return f"format {form if given.bounds is None and given.own_bounds is None else 3}"

@@ -81,7 +81,15 @@ STATE = (
     Key("traffic", "age", 0, 60, "s", True),
 )
 
+# The bounds of a report, which stand at the end of both lines in format 3, in their order.
+BOUNDS = (
+    Key("bounds", "p", 0, 10000, "0.001 NM", True, "3.3.0"),
+    Key("bounds", "v", 0, 10000, "ft", True, "3.3.0"),
+    Key("bounds", "s", 0, 10000, "0.1 kt", True, "3.3.0"),
+    Key("bounds", "w", 0, 10000, "ft/min", True, "3.3.0"),
+)
+
 
 def of_table(table):
-    """The numbers of one table of a configuration, or of one state line, in their order."""
-    return [key for key in CONFIGURATION + STATE if key.table == table]
+    """The numbers of one table of a configuration, of one state line, or of bounds, in their order."""
+    return [key for key in CONFIGURATION + STATE + BOUNDS if key.table == table]

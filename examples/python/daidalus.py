@@ -29,7 +29,7 @@ from struct import Struct as Packing
 from struct import error as DoesNotFit
 from typing import List, NamedTuple, Optional
 
-VERSION = 30200  # of daidalus.h: the structs of a library of another version may be others
+VERSION = 30300  # of daidalus.h: the structs of a library of another version may be others
 MOST_AIRCRAFT, MOST_LEVELS, MOST_VALUES, MOST_CANDIDATES, MOST_TEXT = 64, 4, 512, 1897, 130176
 
 

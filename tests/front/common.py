@@ -7,7 +7,7 @@ import subprocess
 TOP = os.path.dirname(os.path.dirname(os.path.dirname(os.path.realpath(__file__))))
 LONG = 120  # seconds that nothing here takes
 # what is said of states that are too long
-LONG_STATES = "have more than 65536 bytes: judge parts that begin with a moment (after a line format 2 if there was one), each with its report"
+LONG_STATES = "have more than 65536 bytes: judge parts that begin with a moment (after a line format if there was one), each with its report"
 
 
 def load(path):

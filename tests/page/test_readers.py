@@ -26,7 +26,7 @@ EXTRA = [b"last_times = 1\n", b"last_times = 2\n", b"last_times = true\n", b"tau
          b"\ngs.min = 3\n", b"\xef\xbb\xbf", b"\xff", b"\r\n", b"# c\n", LEVEL, LEVEL.replace(b"660", b"0"), b"\x00", b"\t",
          b"alt = {min=0, max=10, step=1, rate=1}\n", b"[level]\n", b"[gs.sub]\n", b'"resolve" = 2\n', b"a.b.c = 1\n"]
 LINES = [b"moment 5", b"end", b"own 0 0 0 0 0 0", b"traffic X 0 0 0 0 0 0", b"traffic X 0 0 0 0 0 0 5", b"format 1", b"format 2",
-         b"format 3", b"moment 99999999999", b"moment +7", b"moment -0", b"own 0 0 1 360 0 0", b"traffic TOOLONGID 0 0 0 0 0 0",
+         b"format 4", b"moment 99999999999", b"moment +7", b"moment -0", b"own 0 0 1 360 0 0", b"traffic TOOLONGID 0 0 0 0 0 0",
          b"  # c", b"\xef\xbb\xbfend", b"x" * 256, b"#" + b"y" * 255, b"end\r", b"end \r\r", b"traffic a_-9 200001 0 0 0 0 0",
          b"own 1 2 3", b"__proto__", b"constructor 1", b"moment 4294967295", b"moment 4294967296",
          b"traffic AMBER 1 2 3 4 5 6 -0", b"own\t0\t 0 0 0 0 00", b"x" * 255, b"# " + b"z" * 252 + b"\r", b"# " + b"z" * 253 + b"\r"]

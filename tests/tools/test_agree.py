@@ -163,6 +163,12 @@ class Floating(ToolTest):
             self.assertEqual((status, out), (4, ""))
             self.assert_one_line(said, part)
 
+    def test_reports_with_bounds_are_not_compared(self):
+        states = os.path.join(TOP, "examples", "bounded.states")
+        status, out, said = self.tool("agree", "--float", floating, CONFIG, states, self.write("a.report", ""))
+        self.assertEqual((status, out), (4, ""))
+        self.assert_one_line(said, "reports of moment 31 have bounds")
+
     def test_the_greatest_differences_are_as_their_comments_say(self):
         """In each of examples/differences*.states: what the report and the floating-point program say, and the cause. A table [recovery] changes
         none of the first."""

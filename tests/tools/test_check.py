@@ -73,7 +73,7 @@ EDITS = (
 # Lines that are refused, with their codes (the format's own list), in a moment that is open or not.
 LINES_ALONE = {b"#" + b"c" * 255: 1, b"Own": 2, b"own 1 2": 3, b"own 0 0 1000 360 x 0": 6, b"own 0 0 1000 x 360 0": 4,
                b"traffic A_B-12345 0 0 0 0 0 0": 5, b"own +5 -0 0000001000 0 3600 0": 7, b"own 0 0 00000001000 0 3600 0": 4, b"end": 7,
-               b"format 3": 6, b"format": 3, b"format x": 4, b"traffic A 0 0 0 0 0 0 0": 3, b"#" + b"c" * 254: 0, b" \t": 0, b"": 0}
+               b"format 3": 0, b"format 4": 6, b"format": 3, b"format x": 4, b"traffic A 0 0 0 0 0 0 0": 3, b"#" + b"c" * 254: 0, b" \t": 0, b"": 0}
 
 
 class Configurations(ToolTest):
@@ -290,6 +290,20 @@ STATES_ADVICE = (
     ("moment 0\nown 0 0 10000 0 3600 0\ntraffic A 0 0 10000 -1350 0 0\nend\n", []),
     ("moment 0\nown 0 0 10000 0 3600 0\n" + FAR.replace("0 0\n", "0 0 2\n") + "end\n", ["write the line `format 2` before the first moment"]),
     ("", ["there is no moment in it"]), ("# a comment\nformat 2\n", ["there is no moment in it"]),
+    *((f"format 3\nmoment 0\nown 0 0 10000 0 3600 0 {own}\n" + FAR.replace("0 0\n", f"0 0 0 {aircraft}\n") + "end\n", parts) for own, aircraft, parts in (
+        ("0 0 0 0", "50 75 58 200", []), ("0 0 0 0", "0 0 0 0", []), ("10 25 6 64", "500 150 195 500", []), ("499 0 6 0", "1000 0 6 0", []),
+        ("0 0 0 0", "93 148 58 200", ["bounds of places are 93, which are metres of ADS-B's classes (NACp): P is in 0.001 nautical miles, so write 50"]),
+        ("93 148 58 200", "556 148 58 200", ["bounds of places are 93 and 556, which are metres of ADS-B's classes (NACp): P is in 0.001 nautical miles, so write 50 and 300"]),
+        ("33 0 6 0", "608 0 6 0", ["bounds of places are 608, which are feet of ADS-B's classes (NACp): P is in 0.001 nautical miles, so write 100"]),
+        ("0 0 0 0", "1000 0 6 0", ["no bound of a place is below 1 nautical miles, P = 1000: if 1000 feet are meant, write 165, and if metres, 540"]),
+        ("0 45 0 64", "50 150 6 64", ["bounds of heights are 45 and 150, which are metres of ADS-B's classes (GVA): V is in feet, so write 148 and 493"]),
+        ("50 150 6 64", "50 150 6 64", []),
+        ("0 0 1 0", "50 0 3 0", ["no bound of a velocity is above 0.3 knots, which no class of ADS-B promises: S is in 0.1 knot, so 3 knots would be 30, and 3 m/s 59"]),
+        ("0 0 1 0", "50 0 1 0", ["so 1 knot would be 10, and 1 m/s 20"]),
+        ("0 75 0 5", "0 0 0 8", ["no bound of a vertical speed is above 8 feet per minute, and reports round by more: W is in ft/min, so 8 feet per second would be 480"]),
+        ("0 0 0 0", "50 0 0 0", ["places have bounds and no velocity has one"]), ("0 75 0 0", "0 0 0 0", ["heights have bounds and no vertical speed has one"]))),
+    ("format 2\nmoment 0\nown 0 0 10000 0 3600 0 0 0 0 0\n" + FAR.replace("0 0\n", "0 0 0\n") + "end\n", ["write the line `format 3` before the first moment"]),
+    ("moment 0\nown 0 0 10000 0 3600 0\n" + FAR.replace("0 0\n", "0 0 2 0 0 0 0\n") + "end\n", ["write the line `format 3` before the first moment"]),
 )
 
 

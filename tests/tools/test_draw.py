@@ -99,6 +99,25 @@ class Pictures(ToolTest):
         trace = next(trace for trace in traces if trace.name == "A")
         self.assertEqual([*zip(trace.east, trace.north, trace.alt)], [(1.65, 8, 10060), (2.625, 8, 11000)])
 
+    def test_discs_of_bounds(self):
+        """0.5 and 0.25 NM, and 36 s at 10 knots are 0.1: 0.85 NM at the first moment. In 30 s from the last one on it widens by 20 knots."""
+        text = "format 3\n" + re.sub(r"(?m)^(own .*)$", r"\1 500 0 100 0", STATES)
+        text = text.replace("10000 -1350 0 0", "10000 -1350 0 100 36 250 0 100 0").replace("11000 -1350 0 0", "11000 -1350 0 0 0 250 0 100 0")
+        root, _ = self.picture(REPORT, "--states", self.write("in.states", text))
+        discs = [float(circle.get("r")) for circle in root.iter("{http://www.w3.org/2000/svg}circle") if circle.get("fill-opacity")]
+        self.assertEqual(len(discs), 2)
+        self.assertAlmostEqual(discs[0] / discs[1], 0.85 / 0.75, 2)
+        dashed = [path.get("d") for path in root.iter("{http://www.w3.org/2000/svg}path") if path.get("stroke-dasharray") == "3 2"]
+        self.assertEqual(len(dashed), 1)
+        later = float(re.search(r"a([0-9.]+) ", dashed[0])[1])
+        self.assertAlmostEqual(later / discs[1], (0.75 + 30 * 20 / 3600) / 0.75, 2)
+        self.assertIn("A disc is as wide as the bounds of both reports.", self.words(root))
+
+    def test_without_bounds_format_3_is_drawn_as_format_2(self):
+        two = "format 2\n" + re.sub(r"(?m)^(traffic .*)$", r"\1 0", STATES)
+        three = re.sub(r"(?m)^((?:own|traffic) .*)$", r"\1 0 0 0 0", two).replace("format 2", "format 3")
+        self.assertEqual(*(self.picture(REPORT, "--states", self.write("in.states", text))[1] for text in (two, three)))
+
     def test_an_aircraft_may_be_named_ownship(self):
         """Its traces are drawn by themselves, as those of an aircraft of another name."""
         drawn = [self.picture(REPORT.replace(" A ", f" {name} "), "--states", self.write("in.states", STATES.replace(" A ", f" {name} ")))[1]

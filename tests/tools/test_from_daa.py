@@ -5,7 +5,7 @@ import re
 import unittest
 
 from common import CONFIG, TOP, ToolTest
-from daidalus_files import Moment, Own, Reader, Traffic
+from daidalus_files import EXACT, Bounds, Moment, Own, Reader, Traffic
 
 HEAD = "NAME lat lon alt trk gs vs time\n[none] [deg] [deg] [ft] [deg] [knot] [fpm] [s]\n"
 PLANE = "NAME sx sy sz vx vy vz time\n[none] [nmi] [nmi] [ft] [knot] [knot] [fpm] [s]\n"
@@ -19,6 +19,20 @@ class FromDaa(ToolTest):
         events = Reader().read(out.encode())
         self.assertTrue(all(isinstance(event, Moment) for event in events), out)
         return events, said
+
+    def test_bounds(self):
+        """Those of the command words, in format 3; without them each byte is as before."""
+        text = HEAD + "own 60 10 5000 90 150 -100 3\nA 60.1 10 5200 180 140 0 3\n"
+        plain = self.tool("from_daa", self.write("in.daa", text))[1]
+        for words, own, aircraft in ((("--bounds", "50,75,58,200"), EXACT, Bounds(50, 75, 58, 200)), (("--own-bounds", "10,25,6,64"), Bounds(10, 25, 6, 64), EXACT),
+                                     (("--bounds", "0,0,0,0"), EXACT, EXACT), (("--own-bounds=1,2,3,4", "--bounds=10000,0,0,5"), Bounds(1, 2, 3, 4), Bounds(10000, 0, 0, 5))):
+            status, out, _ = self.tool("from_daa", *words, self.write("in.daa", text))
+            moment = Reader().read(out.encode())[0]
+            self.assertEqual((status, out.split("\n")[0], moment.own.bounds, moment.traffic[0].bounds), (0, "format 3", own, aircraft))
+            bare = [re.sub(r"(^own( \S+){6}|^traffic( \S+){7}).*", r"\1", line) for line in out.split("\n")[1:]]
+            self.assertEqual("\n".join(bare), plain)
+        for word in ("1,2,3", "1,2,3,4,5", "1,2,3,-4", "1,2,3,10001", "1,2,x,4", "1, 2,3,4", ""):
+            self.assertEqual(self.tool("from_daa", f"--bounds={word}", self.write("in.daa", text))[:2], (2, ""), word)
 
     def test_latitudes_and_longitudes(self):
         """A minute of latitude is a mile, at 60 degrees north a minute of longitude half a one."""

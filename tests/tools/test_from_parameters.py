@@ -223,7 +223,7 @@ class FromParameters(ToolTest):
     def test_what_has_no_place_is_told(self):
         more = "left_hdir = 90 [deg]\nhysteresis_time = 5 [s]\nh_pos_z_score = 0.5\nbelow_relative_hs = 0 [knot]\nmy_own = 3\n"
         _, said = self.made(TOP.replace("left_hdir = 180 [deg]\n", "") + more + LEVELS)
-        for line in ("left_hdir = 90 [deg] is left out: all tracks are candidates here", "h_pos_z_score = 0.5 is left out: the uncertainty",
+        for line in ("left_hdir = 90 [deg] is left out: all tracks are candidates here", "h_pos_z_score = 0.5 is left out: bounds of errors belong to reports here",
                      "hysteresis_time = 5 [s] is left out: nothing is kept between moments here", "my_own = 3 is left out: no such parameter"):
             self.assertTrue(any(line in each for each in said), line)
         self.assertIn("below_relative_hs", said[-1])

@@ -393,7 +393,7 @@ class Kept(unittest.TestCase):
     """What is kept of what was heard, and reports of the second that has begun."""
 
     def setUp(self):
-        self.sky = from_sbs.Sky(argparse.Namespace(own="4B0001", at=None, gpsd=None, oldest=10))
+        self.sky = from_sbs.Sky(argparse.Namespace(bounds=None, own_bounds=None, own="4B0001", at=None, gpsd=None, oldest=10))
 
     def hear(self, second, *addresses, lat=47.1):
         for address in addresses:

@@ -61,6 +61,8 @@ class InTheEngine(unittest.TestCase):
         ranges = {}
         for name, low, high in re.findall(r"^(\w+) = record \{ low = (.*?); high = (.*?) \}", text, re.M):
             ranges[name] = tuple(-int(it.split("pos ")[1].strip(")")) if "neg" in it else int(it.split("pos ")[1]) for it in (low, high))
+        for key in keys.BOUNDS:
+            self.assertEqual(ranges["error_bounds"], (key.low, key.high), key)
         of_key = {"x": "positions", "y": "positions", "alt": "altitudes", "trk": "tracks", "gs": "ground_speeds", "vs": "vertical_speeds", "vx": "speeds",
                   "vy": "speeds", "age": "ages"}
         for key in keys.STATE:
@@ -142,14 +144,14 @@ class InFormats(unittest.TestCase):
     def test_the_ranges_of_the_fields_of_a_state(self):
         part = text_of("docs/FORMATS.md").partition("| Field | Range |")[2].partition("\n\n")[0]
         rows = {name: told for names, told in re.findall(r"(?m)^\| (.*?) \| (.*?) \|", part) for name in re.findall(r"\b[A-Z]+\b", names)}
-        for key in keys.STATE:
+        for key in keys.STATE + keys.BOUNDS:
             self.assertEqual(rows[key.name.upper()], f"{key.low} to {key.high}", key)
 
 
 class Versions(unittest.TestCase):
     def test_each_is_since_a_version_that_changes_tells(self):
         versions = re.findall(r"(?m)^## (\d+\.\d+\.\d+)", text_of("CHANGES.md"))
-        for key in keys.CONFIGURATION + keys.STATE:
+        for key in keys.CONFIGURATION + keys.STATE + keys.BOUNDS:
             self.assertIn(key.since, versions, key)
 
 

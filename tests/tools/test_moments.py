@@ -3,7 +3,7 @@ import subprocess
 import unittest
 
 from common import CONFIG, ToolTest, module, program, replayed
-from daidalus_files import Moment, Reader, read_config
+from daidalus_files import EXACT, Moment, Reader, read_config
 from headings import velocity
 
 moments = module("tools/moments")
@@ -72,6 +72,18 @@ class Lines(ToolTest):
         one, other = (self.tool("moments", "--seed", "5", "--moments", "4", "--aimed") for _ in range(2))
         self.assertEqual(one, other)
         self.assertNotEqual(one, self.tool("moments", "--seed", "6", "--moments", "4", "--aimed"))
+
+    def test_bounds_are_added_to_the_same_moments(self):
+        for words in ((), ("--aimed",)):
+            (_, plain, _), (status, bounded, _) = (self.tool("moments", "--seed", "5", "--moments", "40", *words, *more) for more in ((), ("--bounds",)))
+            self.assertEqual((status, bounded.split("\n")[0]), (0, "format 3"))
+            one, other = (Reader().read(text.encode()) for text in (plain, bounded))
+            bounds = [it.bounds for moment in other for it in (moment.own, *moment.traffic)]
+            for moment in other:
+                moment.own, moment.traffic = moment.own._replace(bounds=EXACT), [it._replace(bounds=EXACT) for it in moment.traffic]
+            self.assertEqual([(it.time, it.own, it.traffic) for it in one], [(it.time, it.own, it.traffic) for it in other])
+            for numbers, most in zip(zip(*bounds), (200, 150, 300, 500)):
+                self.assertTrue(0.4 < sum(it == 0 for it in numbers) / len(numbers) < 0.7 and 0.8 * most < max(numbers) <= most, numbers)
 
     def test_refuses_words(self):
         for words in ((), ("--seed", "-1", "--moments", "1"), ("--seed", "4294967296", "--moments", "1"), ("--seed", "1", "--moments", "0")):

@@ -11,7 +11,7 @@ from fractions import Fraction
 from unittest import mock
 
 from common import CONFIG, ENCOUNTER, TOP, ToolTest, module, replayed
-from daidalus_files import MODEL_KEYS, MODELS, Config, Level, Moment, Own, Reader, Traffic, config_of, examine_config, own_line, traffic_line
+from daidalus_files import MODEL_KEYS, MODELS, Config, Level, Moment, Own, Reader, Traffic, config_of, examine_config, moment_lines, own_line, traffic_line
 from headings import SINES, sine, velocity
 
 import well_clear
@@ -358,13 +358,16 @@ def texts():
         yield f"{sort} {count} {grid} {seconds}", text
 
 
-def aimed(draw, number, aged):
-    """State lines of so many aimed moments, with reports of any age or of none."""
-    lines = ["format 2"] * aged
+def aimed(draw, number, form):
+    """State lines of so many aimed moments in a format; in format 1 no report is old, and in format 3 reports have bounds."""
+    lines = [f"format {form}"]
     for time in range(number):
         own, traffic = moments.aimed_moment(draw)
-        traffic = [aircraft if aged else aircraft._replace(age=0) for aircraft in traffic]
-        lines += [f"moment {time}", own_line(own), *(traffic_line(aircraft, 1 + aged) for aircraft in traffic), "end"]
+        if form == 1:
+            traffic = [aircraft._replace(age=0) for aircraft in traffic]
+        elif form == 3:
+            own, traffic = moments.with_bounds(draw, own, traffic)
+        lines += moment_lines(time, own, traffic, form)
     return "\n".join(lines).encode() + b"\n"
 
 
@@ -382,20 +385,28 @@ def grazing(draw, number):
 
 
 class AgainstTheProgram(ToolTest):
-    def test_every_kind_of_configuration(self):
-        draw, seen, compared = moments.Generator.of_seed(20), set(), 0
+    def agree(self, seed, number, form_at):
+        """The program and the reference on so many aimed moments of each kind of configuration, in the format for the configuration at a
+        place of the list."""
+        draw, seen, compared = moments.Generator.of_seed(seed), set(), 0
         for place, (name, text) in enumerate(texts()):
             document, faults = examine_config(text.encode())
             self.assertEqual(faults, [], name)
-            config, states = config_of(document), aimed(draw, 12, place % 2 == 0)
+            config, states = config_of(document), aimed(draw, number, form_at(place))
+            wanted = [line for moment in Reader().read(states) for line in reference.report_of(config, moment)]
             status, written = replayed(self.write("c.toml", text), states)
             self.assertEqual(status, 0)
-            wanted = [line for moment in Reader().read(states) for line in reference.report_of(config, moment)]
             self.assertEqual(written.decode().splitlines(), wanted, name)
             seen.update(line.split()[0] + (" none" if line.endswith(" none") else "") for line in wanted)
-            compared += 12
-        self.assertGreaterEqual(compared, 250)
+            compared += number
         self.assertLessEqual({"recover", "recover none", "resolve", "resolve none", "last", "last none"}, seen)
+        return compared
+
+    def test_every_kind_of_configuration(self):
+        self.assertGreaterEqual(self.agree(20, 12, lambda place: 1 + (place % 2 == 0)), 250)
+
+    def test_every_kind_of_configuration_with_bounds(self):
+        self.assertGreaterEqual(self.agree(21, 4, lambda place: 3), 100)
 
     def test_each_model_on_grazing_lines(self):
         """In the gap that tau leaves, before it and after it. Some of these moments tell a detector that looks at one time alone."""

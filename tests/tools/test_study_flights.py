@@ -22,6 +22,28 @@ from studies.tracing import Traced
 reference = module("tools/reference")
 STUDY, RECOVERY = os.path.join(TOP, "examples", "study.toml"), os.path.join(TOP, "examples", "recovery.toml")
 SECONDS, TENTHS = World("seconds"), World("tenths")
+# Both aircraft fly northward beside each other, so heights alone tell a loss. The ownship's vertical speeds are -10, 0, 10 and 20 ft/s.
+BESIDE = """resolve = 1
+turn_rate = 3
+track_step = 90
+gs = { min = 1000, max = 1000, step = 100, rate = 20 }
+vs = { min = -600, max = 1200, step = 600, rate = 2000 }
+alt = { min = 5000, max = 5000, step = 500, rate = 2000 }
+recovery = { hdist = 82, vdist = 100, nearest = 1 }
+level = [{ dthr = 1000, zthr = 100, tthr = 0, tcoa = 0, lookahead = 40, alert = 30 }]
+"""
+OVERTAKEN = """encounter 0 30 1 all
+own 0 0 5000 0 1000 0
+intruder A 500 0 4880 0 1000 600
+at 1 A vs 1740 3000
+at 6 A vs 600 3000
+end
+"""
+OVERTAKING = """config = "beside.toml"
+encounters = "overtaken.encounters"
+well_clear = { dthr = 1000, zthr = 10, tthr = 0 }
+pilot = { kinds = ["vs"], reaction = [0, 0], warned = [0, 0], update = [8, 8], clear = 30, sides = 1 }
+"""
 STRAIGHT = {"own_flights": (1, 0, 0, 0, 0), "intruder_flights": (1, 0, 0, 0, 0), "intruders": (1,)}
 
 
@@ -88,6 +110,15 @@ class Moments(ToolTest):
                 ran = subprocess.run([program(), "judge", "--config", RECOVERY, "--states", states], input=report, capture_output=True, timeout=60)
                 self.assertTrue(ran.stdout.startswith(written), ran.stdout)
 
+    def test_judge_takes_what_a_pilot_followed_who_stays_on_a_side(self):
+        for sides in (0, 1):
+            study = read_study(write_overtaking(self, sides))
+            traced = Traced(study.encounter(0), study, True)
+            self.assertIn(b"\nrecover vs 7 -600\n", traced.reports[8])
+            ran = subprocess.run([program(), "judge", "--config", study.config, "--states", self.write("in.states", traced.text())], input=traced.report(),
+                                 capture_output=True, timeout=60)
+            self.assertEqual(ran.stdout, b"same\n")
+
     def test_a_loss_is_where_the_programs_report_has_a_violated_level(self):
         """But for the rounding of places: the report's moments are the beginnings of the seconds on which losses are looked for."""
         study, lost = study_with(), 0
@@ -100,6 +131,59 @@ class Moments(ToolTest):
                 lost += 1
                 self.assertTrue(0 <= first - traced.run.loss <= 1, (number, first, traced.run.loss))
         self.assertEqual(lost, 3)
+
+
+class Sides(ToolTest):
+    def test_who_stays_on_a_side_where_both_recover(self):
+        """The ownship is level, 120 ft above A, which climbs by 10 ft/s. A new vertical speed begins after a second. So a climb by 10 ft/s
+        is open, as it stays 110 ft above A, and is flown. From second 2 to 7 A climbs by 29 ft/s, and then by 10 again: on second 8 it is
+        15 ft below. An ownship that then descends by 10 ft/s is more than 100 ft below A after 7 s (15 - 6 * 20 = -105), and one that
+        climbs by 20 ft/s is as far above A after 10 s (15 + 9 * 10 = 105). So the soonest recovery leads through A's height, and comes
+        within 10 ft on second 9. A pilot who climbs on is 85 ft above A on second 16, and holds that climb, which is clear after 2 s
+        (85 + 2 * 10 = 105). Mirrored, where A is above and descends, all this holds for the other side."""
+        for mirror in (1, -1):
+            for sides in (0, 1):
+                study = read_study(write_overtaking(self, sides, mirror))
+                traced, row = Traced(study.encounter(0), study, True), rows.row_of(study.encounter(0), study)
+                own, other = zip(*((own.alt - 5000, it.alt - own.alt) for own, (it,) in traced.told))
+                self.assertEqual([mirror * it for it in own[:9]], [0, 0, 10, 20, 30, 40, 50, 60, 70])
+                self.assertEqual([mirror * it for it in other[:9]], [-120, -110, -110, -91, -72, -53, -34, -15, -15])
+                study.guidance.see(8, *traced.told[8])
+                found = [(7, mirror * -600), (10, mirror * 1200)]
+                self.assertEqual((study.guidance.recovery("vs"), study.guidance.recoveries("vs")), (found[0], tuple(found[::mirror])))
+                self.assertEqual([mirror * it for it in own[9:12]], [80, 100, 120] if sides else [80, 70, 60])
+                flown, back = ("up", "down")[::mirror]
+                self.assertEqual([it for it in traced.run.log if " no " in it or "vs " in it],
+                                 [f"0 vs {flown} {mirror * 600}", *((f"8 no answer; vs {mirror * 1200} recovers after 10 s", f"8 vs {flown} {mirror * 1200}",
+                                                                    f"16 no answer; vs {mirror * 1200} recovers after 2 s") if sides else
+                                                                   (f"8 no answer; vs {mirror * -600} recovers after 7 s", f"8 vs {back} {mirror * -600}"))])
+                keys = "loss", "g_loss", "g_alert", "advice", "advices", "reversals", "nones", "cause"
+                self.assertEqual([row[key] for key in keys], [5, None, 0, 0, 2, 0, 2, ""] if sides else [5, 9, 0, 0, 2, 1, 1, "none-open"])
+
+    def test_shards_end_to_end_are_the_whole(self):
+        """By processes too; and with the key 0 the rows are those without the key."""
+        made = lambda *words: self.tool("study", "run", self.path, *words)[1:]
+        found = {}
+        for sides in (None, 0, 1):
+            self.path = write_overtaking(self, sides, many=5)
+            found[sides], said = made()
+            self.assertEqual((found[sides].count("\n"), said), (6, ""))
+            self.assertEqual("".join(made("--shard", f"{k}/3")[0] for k in range(3)), found[sides])
+            self.assertEqual(made("--jobs", "2"), (found[sides], ""))
+        self.assertEqual(found[None], found[0])
+        self.assertNotEqual(found[0], found[1])
+
+
+def write_overtaking(test, sides, mirror=1, many=1):
+    """Writes the study in a test's folder, with or without the key `sides`, as it is or with up and down exchanged, and with so many
+    encounters, which differ by how far to the side A is. Its path."""
+    beside, text, study = BESIDE, OVERTAKEN, OVERTAKING.replace(", sides = 1", "" if sides is None else f", sides = {sides}")
+    if mirror < 0:
+        beside = BESIDE.replace("min = -600, max = 1200", "min = -1200, max = 600")
+        text = OVERTAKEN.replace("4880 0 1000 600", "5120 0 1000 -600").replace("vs ", "vs -")
+    test.write("beside.toml", beside)
+    test.write("overtaken.encounters", "".join(text.replace("encounter 0", f"encounter {it}").replace("A 500", f"A {500 - it}") for it in range(many)))
+    return test.write("study.toml", study)
 
 
 class Flights(unittest.TestCase):
@@ -303,6 +387,9 @@ class Answers:
     def recovery(self, kind):
         return self.found
 
+    def recoveries(self, kind):
+        return self.found[kind] if isinstance(self.found, dict) else self.found
+
     def present(self, kind):
         return {"track": 0, "gs": 1000, "vs": 0, "alt": 5000}[kind]
 
@@ -385,6 +472,42 @@ class Pilots(unittest.TestCase):
             self.assertEqual((found, run.nones), ([100, second], 2))
         tracks, run = self.tracks(Answers((None, None)), [2] * 7)
         self.assertEqual((tracks, run.advices, run.nones), ([0] * 7, 0, 3))
+
+    def test_recoveries_on_both_sides(self):
+        """Before a side is flown the sooner one is taken, then the smaller turn, then the right one."""
+        for found, track in ((((9, 300), (5, 100)), 100), (((5, 300), (9, 100)), 300), (((5, 300), (5, 100)), 300), (((5, 260), (5, 80)), 80),
+                             (((5, 300), (5, 60)), 60), (((9, 300), None), 300), ((None, (9, 100)), 100), ((None, None), 0)):
+            self.assertEqual(self.tracks(Answers((None, None), recovery=found), [2] * 5, sides=1)[0][4], track, found)
+
+    def after_an_answer(self, answer, found, **pilot):
+        """What a pilot flies who takes this answer, and at the next look has these recoveries alone; and the run."""
+        guidance, run = Answers(answer, is_open=[], recovery=found), flight.Run()
+        following = Following(guidance, Pilot(reaction=(0, 0), update=(1, 1), sides=1, **pilot), 0, run)
+        following.step(0, PLAN, 2)
+        guidance.answers = (None, None)
+        return following.step(1, PLAN, 2)[0], run
+
+    def test_a_recovery_on_the_side_that_is_flown_comes_first(self):
+        """However soon the other one is; the present track, here 0, is on no other side than the one that is flown."""
+        right, left = (None, 40), (320, None)
+        for answer, found, track, reversals in ((right, ((2, 300), (30, 100)), 100, 0), (left, ((30, 200), (2, 10)), 200, 0), (right, ((2, 300), None), 300, 1),
+                                                (left, (None, (2, 100)), 100, 1), (right, ((3, 0), None), 0, 0), (right, ((3, 0), (9, 100)), 0, 0),
+                                                (right, ((3, 0), (2, 100)), 100, 0), (right, ((3, 0), (3, 100)), 0, 0), (left, ((3, 0), (2, 100)), 0, 0)):
+            targets, run = self.after_an_answer(answer, found)
+            self.assertEqual((targets["track"][0], run.reversals, run.nones), (track, reversals, 1), (answer, found))
+
+    def test_recoveries_of_several_kinds_on_both_sides(self):
+        """That on the side of the kind that is flown; else the soonest, of several that of the first kind."""
+        kinds = ("track", "vs")
+        for found, track, vs in (({"track": ((9, 300), (9, 60)), "vs": ((5, -500), None)}, 0, -500), ({"track": ((9, 300), (9, 60)), "vs": ((9, -10), None)}, 60, 0)):
+            targets, _ = self.flown(Answers((None, None), recovery=found), [2] * 5, kinds=kinds, sides=1)
+            self.assertEqual((targets[4][0]["track"][0], targets[4][0]["vs"][0]), (track, vs))
+        answers = {"track": (None, None), "vs": (None, 500)}
+        for found, track, vs in (({"track": ((2, 300), (2, 60)), "vs": ((2, -500), (30, 900))}, 0, 900), ({"track": (None, (2, 60)), "vs": ((3, -500), None)}, 60, 0)):
+            targets, _ = self.after_an_answer(answers, found, kinds=kinds)
+            self.assertEqual((targets["track"][0], targets["vs"][0]), (track, vs))
+        _, run = self.after_an_answer({"track": (None, 40), "vs": (None, None)}, {"track": (None, None), "vs": ((3, 0), None)}, kinds=kinds)
+        self.assertEqual(run.log[-1], "1 vs down 0")  # of a kind that is not flown the present value is on the lower side
 
     def test_a_manoeuvre_of_the_plan_waits_for_its_way(self):
         plan, run = {**PLAN, "track": (90, 3)}, flight.Run()

@@ -6,7 +6,7 @@ import re
 import unittest
 
 from common import CONFIG, TOP, ToolTest, module
-from daidalus_files import MODEL_KEYS, Level, Moment, Own, Traffic, read_config
+from daidalus_files import MODEL_KEYS, Bounds, Level, Moment, Own, Traffic, read_config
 
 volume = module("tools/volume")
 reference = module("tools/reference")
@@ -58,11 +58,23 @@ class Volumes(ToolTest):
             self.assertAlmostEqual(found, wanted, delta=0.0015)
         self.assertEqual(len(volume.stretches_ahead(level_of(**EXAMPLE), 240 / 3600, 0.65, 0.001)), 1)
 
-    def test_the_picture_of_the_guide(self):
-        """docs/volume.svg is what is drawn today."""
-        status, out, said = self.tool("volume", CONFIG, "--level", "2")
-        with open(os.path.join(TOP, "docs", "volume.svg"), encoding="utf-8") as file:
-            self.assertEqual((status, out, said), (0, file.read(), ""))
+    def test_the_pictures_of_the_guide(self):
+        """docs/volume.svg and docs/bounds.svg are what is drawn today."""
+        for name, words in (("volume", ()), ("bounds", ("--bounds", "100,100,100,200"))):
+            status, out, said = self.tool("volume", CONFIG, "--level", "2", *words)
+            with open(os.path.join(TOP, "docs", f"{name}.svg"), encoding="utf-8") as file:
+                self.assertEqual((status, out, said), (0, file.read(), ""))
+
+    def test_with_bounds(self):
+        """Straight ahead an aircraft that comes at 240 knots may be 0.1 miles nearer, and its place in 17.5 s off by 10 knots more. With bounds
+        of 0 it is the volume itself; by the time to the entry point it reaches as far as place and velocity may be off in 35 s."""
+        level = level_of(**EXAMPLE)
+        none, some = (volume.stretch_perhaps(level, 240, Bounds(place, 0, speed, 0), 0, 0.001) for place, speed in ((0, 0), (100, 100)))
+        self.assertAlmostEqual(none[1], 2.507, delta=0.001)
+        self.assertTrue(2.507 + 0.1 + 35 / 2 * 10 / 3600 < some[1] < 2.507 + 0.1 + 35 * 10 / 3600 + 0.05, some)
+        self.assertAlmostEqual(some[0], -0.76, delta=0.001)
+        entry = volume.stretch_perhaps(level._replace(tep=1), 240, Bounds(100, 0, 100, 0), 0, 0.001)
+        self.assertAlmostEqual(entry[1], 0.66 + 0.1 + 35 * 250 / 3600, delta=0.001)
 
     def test_a_small_volume_is_round_and_on_the_frame(self):
         """Where 0 s are left, it reaches dthr to all sides; its ticks are fractions where whole miles are too far apart."""

@@ -125,7 +125,7 @@ explain() {
     why="$(unreadable "${files[@]}") cannot be read"
     ;;
   8) why="standard input has more than 2^40 bytes" ;;
-  9) why="the states $(shown "$states") have more than 65536 bytes: judge parts that begin with a moment (after a line format 2 if there was one), each with its report" section='Command words' ;;
+  9) why="the states $(shown "$states") have more than 65536 bytes: judge parts that begin with a moment (after a line format if there was one), each with its report" section='Command words' ;;
   esac
   say "status $status: $why (docs/FORMATS.md, \"$section\")"
 }

@@ -5,7 +5,7 @@ import math
 import operator
 import re
 
-from daidalus_files import (AGE, ALT, FIELDS, GS, MOST_AIRCRAFT, VS, VX, Own, X, fixed, lacks_line, origin_line, whole_traffic)
+from daidalus_files import AGE, ALT, EXACT, FIELDS, GS, MOST_AIRCRAFT, VS, VX, Own, X, fixed, lacks_line, origin_line, whole_traffic
 from headings import velocity
 
 from .plane import closest, offset, on_ellipsoid, rotated
@@ -251,7 +251,7 @@ class Maker:
             return None
         if is_measured:
             self.measure(row, frame, (east, north), (east_off, north_off), (x, y), (speed_x, speed_y), (vx, vy), alt - height, vs)
-        return whole_traffic((self.ids[name], place_x, place_y, alt, vx, vy, vs, age))
+        return whole_traffic((self.ids[name], place_x, place_y, alt, vx, vy, vs, age, EXACT))
 
     def measure(self, row, frame, way, place, seen_place, speed, seen_speed, rounded_up, vs):
         """Notes what rounding costs between the ownship and an aircraft."""

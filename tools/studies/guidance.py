@@ -91,6 +91,11 @@ class Guidance:
         found = self.moment.recovery(NUMBERS[kind]) if self.config.recovery else None
         return tuple(found) if found else None
 
+    def recoveries(self, kind):
+        """The soonest recovery on the lower and on the upper side, each as `recovery` has it. The present value is on the lower side."""
+        found = [self.moment.recovery_side(NUMBERS[kind], side) if self.config.recovery else None for side in Side]
+        return tuple(it and tuple(it) for it in found)
+
     def present(self, kind):
         """The ownship's value of a kind."""
         return {"track": self.own.trk, "gs": self.own.gs, "vs": self.own.vs, "alt": self.own.alt}[kind]

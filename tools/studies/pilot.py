@@ -16,7 +16,8 @@ class Pilot:
     level. update: from one look at the answer to the next. margin: by how much farther than the answer is flown, of each kind in
     its unit. clear: for how long the way back must be without an alert of `respond` and, with heed_back, open. respond: the least
     level that is answered to; 0 is the configuration's `resolve`. keep_recovery: the first recovery is flown on until there is
-    an answer. heed_plan: a manoeuvre of the plan waits while its value is not open."""
+    an answer. sides: 1 if the recovery on the side that is flown already comes before a sooner one, else 0. heed_plan: a manoeuvre
+    of the plan waits while its value is not open."""
 
     seed: int = 0
     kinds: tuple = ("track",)
@@ -29,6 +30,7 @@ class Pilot:
     heed_back: bool = True
     heed_plan: bool = False
     keep_recovery: bool = False
+    sides: int = 0
 
 
 class Following:
@@ -76,15 +78,29 @@ class Following:
         return further if further != value and self.guidance.is_open(kind, further) else value
 
     def recover(self, second, kinds):
-        """Where no kind has an answer: the soonest recovery, of several that of the first kind."""
-        found = [(it[0], place, it[1], kind) for place, kind in enumerate(kinds) if (it := self.guidance.recovery(kind))]
+        """Where no kind has an answer: the soonest recovery, of several that of the first kind. With `sides` those on the side that is
+        flown already come first, and of a kind's two that are as soon it is the nearer value, or else the upper one."""
+        found = []
+        for place, kind in enumerate(kinds):
+            for after, value, side in self.recoveries(kind):
+                is_other, *nearness = self.order(kind, value, side)
+                found.append((self.pilot.sides and is_other, after, place, *nearness, kind, value, side))
         self.recovering = bool(found)
         if not found:
             self.run.log.append(f"{second} no answer and no recovery")
             return
-        after, _, value, kind = min(found)
+        _, after, *_, kind, value, side = min(found)
         self.run.log.append(f"{second} no answer; {kind} {value} recovers after {after} s")
-        self.take(second, kind, value, int(change(kind, self.guidance.present(kind), value) > 0))
+        self.take(second, kind, value, side)
+
+    def recoveries(self, kind):
+        """The recoveries of a kind that the pilot is told, each as (after, value, side): the soonest one, or with `sides` that of each
+        side, where the present value is on the side that is flown already."""
+        now = self.guidance.present(kind)
+        if not self.pilot.sides:
+            it = self.guidance.recovery(kind)
+            return [(*it, int(change(kind, now, it[1]) > 0))] if it else []
+        return [(*it, self.side if (kind, it[1]) == (self.kind, now) else side) for side, it in enumerate(self.guidance.recoveries(kind)) if it]
 
     def take(self, second, kind, value, side):
         run = self.run

@@ -14,7 +14,7 @@ from .pilot import ORDER, Pilot
 from .sensors import Sensors
 
 # The ranges of numbers; a pair in the file is a range of its own within these.
-PILOT = {"reaction": (0, 120), "warned": (0, 120), "update": (1, 120), "clear": (1, 600), "respond": (0, 4)}
+PILOT = {"reaction": (0, 120), "warned": (0, 120), "update": (1, 120), "clear": (1, 600), "respond": (0, 4), "sides": (0, 1)}
 SENSORS = {"place": (0, 5000), "height": (0, 5000), "speed": (0, 2000), "climb": (0, 5000), "every": (1, 600), "lost": (0, 1000), "gap": (1, 600),
            "late": (0, 60), "oldest": (0, 60), "own_track": (-50, 50)}
 DRAW = {"seconds": (60, MOST_SECONDS), "own_gs": (300, 10000), "intruder_gs": (300, 10000), "closest": (1, MOST_SECONDS), "altitudes": (0, 50000)}

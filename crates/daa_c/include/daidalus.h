@@ -50,7 +50,7 @@ extern "C" {
 #endif
 
 /* The version of this header: major * 10000 + minor * 100 + patch; daa_version() tells that of the archive. */
-#define DAA_VERSION 30200
+#define DAA_VERSION 30300
 
 /* Limits. */
 #define DAA_MOST_AIRCRAFT 64     /* of a moment */
@@ -273,7 +273,7 @@ struct daa_side_state {
     uint64_t until, next;
 };
 
-/* State lines, as docs/FORMATS.md has them, so far. All zeros: none, and the lines that come are in format 1.
+/* State lines of formats 1 and 2, as docs/FORMATS.md has them, so far. All zeros: none, and the lines that come are in format 1.
  * format: 2 if they are in format 2, else they are in format 1. last: the time of the last ended moment, if ended is not 0.
  * opened: not 0 while a moment is open. Then time is its time in seconds, own its ownship if owned is not 0, and the first
  * count elements of traffic are its aircraft. After the line that ends a moment these stay as they were, until the next
@@ -379,7 +379,8 @@ int32_t daa_candidate(const struct daa_config *config, uint32_t index, struct da
 DAA_MUST_USE
 int32_t daa_fault(const struct daa_own *own, const struct daa_traffic *traffic, size_t count, struct daa_fault_answer *out);
 
-/* Takes the next state line, of size bytes and without its line feed. DAA_OK where it was taken, DAA_MOMENT_ENDED where it
+/* Takes the next state line, of size bytes and without its line feed, in format 1 or 2: `format 3`, in which reports have
+ * bounds, has the fault 6, since the structs of a state have no room for bounds. DAA_OK where it was taken, DAA_MOMENT_ENDED where it
  * also ended the moment; or, and then lines is unchanged, the number of its fault as `refused` lines of a report have it, 1
  * to 13 (docs/FORMATS.md). A moment that is still open at the end of the input has the fault 14. */
 DAA_MUST_USE

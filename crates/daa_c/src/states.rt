@@ -8,9 +8,10 @@ ghost use Rattle.daa_numbers.specs.Refusal.{own_refusal, traffic_refusal, IsCode
 
 use daa_numbers::{DaaFault, DaaLines, DaaTraffic, Own};
 
-/// Takes the next state line. Returns 0; or -1 if the line ended the moment, whose numbers stay
-/// until the next one begins; or the number of the line's fault, 1 to 13, and then nothing has
-/// changed. Where at most 64 aircraft were counted, at most 64 are then.
+/// Takes the next state line, in format 1 or 2. Format 3, in which reports have bounds, is refused
+/// with 6, as a number that is out of its range. Returns 0; or -1 if the line ended the moment,
+/// whose numbers stay until the next one begins; or the number of the line's fault, 1 to 13, and
+/// then nothing has changed. Where at most 64 aircraft were counted, at most 64 are then.
 #[unsafe(no_mangle)]
 pub extern "C" fn daa_line(line: &[u8], lines: &mut DaaLines) -> i32
     ensures taken { result ≡ pos 0 → IsLineTaken lines.old line.now false lines.new }

@@ -9,3 +9,6 @@ pub mod LevelLemmas
 pub mod MergingLemmas
 pub mod LengthLemmas
 pub mod PlainLemmas
+pub mod ClearLemmas
+pub mod BandLemmas
+pub mod ClearTextLemmas

@@ -3,4 +3,6 @@ pub mod EngineState
 pub mod MomentText
 pub mod PlainText
 pub mod Longest
+pub mod Clear
+pub mod ClearText
 pub mod Inside

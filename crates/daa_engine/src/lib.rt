@@ -20,9 +20,10 @@ pub use beside::workers_for;
 pub use daa_schedule::NoMemory;
 pub use engine::Engine;
 pub use laws::{
-    boards_show_what_is_covered, every_picture_has_one_text, has_one_board, has_one_text,
-    texts_are_short, texts_without_a_recovery_are_as_before,
-    texts_without_last_times_are_as_before,
+    alerts_miss_no_true_violation, boards_show_what_is_covered, every_picture_has_one_text,
+    has_one_board, has_one_text, last_times_are_open_in_truth, open_candidates_are_clear_in_truth,
+    recoveries_recover_in_truth, texts_are_short, texts_say_what_is_clear_in_truth,
+    texts_without_a_recovery_are_as_before, texts_without_last_times_are_as_before,
 };
 pub use room::{MOST_CANDIDATES, Room, leading_flights};
 pub use tickets::Tickets;

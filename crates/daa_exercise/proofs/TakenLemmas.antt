@@ -10,7 +10,8 @@ use Rattle.std.proofs.lemmas.List.Elements.{All-append, All-cons, All-from_recur
 use Rattle.std.proofs.lemmas.List.Folds.{list_any_none}
 use Rattle.std.proofs.lemmas.List.FromFn.{map-range_with_len_more}
 use Rattle.daa_state.specs.InRange.{IsWithin, IsPictureInRange, IsWordInRange}
-use Rattle.daa_state.specs.MomentStep.{MomentsState, Stepped, step, stepped, begun_moment, with_own, with_traffic, ended_picture, has_id, empty_moment}
+use Rattle.daa_state.specs.Bounds.{no_error}
+use Rattle.daa_state.specs.MomentStep.{MomentsState, Stepped, step, stepped, begun_moment, with_own, with_traffic, beside, ended_picture, has_id, empty_moment}
 use Rattle.daa_state.specs.Fault.{Checked, ◌>>=◌}
 use Rattle.daa_state.specs.Ranges.{times}
 use Rattle.daa_state.specs.declared.moments.Moment.{Moment}
@@ -20,6 +21,7 @@ use Rattle.daa_state.specs.declared.word.Picture.{Picture}
 use Rattle.daa_state.specs.declared.word.Word.{Word}
 use Rattle.daa_state.specs.declared.word.Word.TheVariants as says
 use Rattle.daa_state.proofs.StepLemmas.{step-Traffic}
+use Rattle.daa_state.proofs.WordRanges.{no_error-range}
 use Rattle.daa_exercise.specs.Inside.Drawing.{Outputs, moment_at, name_of, traffic_at}
 use Rattle.daa_exercise.specs.Moments.{own_at, count_at, aircraft_at}
 use Rattle.daa_exercise.specs.Taken.{IsTaken, moment_words, steps}
@@ -81,19 +83,15 @@ said items = map (λ t. says.Traffic t) items ++ says.End ∷ []
 module _ (last : Option ℕ) (format time : ℕ) (own : Own) where
   -- the moment is open with these aircraft
   abbrev open_with : List Traffic → Stepped
-  open_with items = stepped (record { moment = Some (record { time = time; own = Some own; traffic = record { items = items } }); last = last; format = format }) None
+  open_with items = stepped (record { moment = Some (record { time = time; own = Some own; bounds = no_error; traffic = record { items = items } }); last = last; format = format }) None
 
   -- it ended with them
   abbrev ended_with : List Traffic → Stepped
   ended_with items = stepped (record { moment = None; last = Some time; format = format }) (Some (picture_of time own items))
 
-  owns : step (record { moment = Some (empty_moment time); last = last; format = format }) (says.Own own) ≡ Ok (open_with [])
+  owns : step (record { moment = Some (empty_moment time); last = last; format = format }) (says.Own own no_error) ≡ Ok (open_with [])
   unfolding step with_own
   owns = refl
-
-  ends : (items : List Traffic) → step (open_with items).state says.End ≡ Ok (ended_with items)
-  unfolding step ended_picture
-  ends items = refl
 
   module _ (output : Outputs) (altitude : ℤ) (at : ℕ) where
     abbrev aircraft : ℕ → Traffic
@@ -127,12 +125,22 @@ module _ (last : Option ℕ) (format time : ℕ) (own : Own) where
     adds : (i : ℕ) → i < 8 → step (open_with (first i)).state (says.Traffic (aircraft i)) ≡ Ok (open_with (first (i + 1)))
     adds i few =
         step-Traffic (open_with (first i)).state.moment last format (aircraft i) (open_with (first i ++ aircraft i ∷ [])).state.moment
-        (gets (record { time = time; own = Some own; traffic = record { items = first i } }) (aircraft i) (new_name i few) (has_room i few))
+        (gets (record { time = time; own = Some own; bounds = no_error; traffic = record { items = first i } }) (aircraft i) (new_name i few) (has_room i few))
         ∙ ap (λ (items : List Traffic). accepted (open_with items)) (one_more i)
+
+    -- a drawn aircraft is taken as the truth, so that it is the same beside an ownship that is
+    beside_same : (numbers : List ℕ) → map (beside no_error) (map (λ j. aircraft j) numbers) ≡ map (λ j. aircraft j) numbers
+    unfolding aircraft_at
+    beside_same [] = refl
+    beside_same (number ∷ numbers) = ap (λ (items : List Traffic). aircraft number ∷ items) (beside_same numbers)
+
+    ends : (count : ℕ) → step (open_with (first count)).state says.End ≡ Ok (ended_with (first count))
+    unfolding step ended_picture traffic_at
+    ends count = ap (λ (items : List Traffic). accepted (ended_with items)) (beside_same (range_with_len 0 count))
 
     all_added : (n i count : ℕ) → i + n ≡ count → count ≤ 8 → steps (open_with (first i)) (said (map aircraft (range_with_len i n))) ≡ Ok (ended_with (first count))
     all_added zero i count e few =
-        steps_next (open_with (first i)) (ended_with (first i)) says.End [] (ends (first i)) ∙ steps_none (ended_with (first i))
+        steps_next (open_with (first i)) (ended_with (first i)) says.End [] (ends i) ∙ steps_none (ended_with (first i))
         ∙ ap (λ (k : ℕ). accepted (ended_with (first k))) (sym (add-zero i) ∙ e)
     all_added (suc n) i count e few =
         steps_next (open_with (first i)) (open_with (first (i + 1))) (says.Traffic (aircraft i)) (said (map aircraft (range_with_len (i + 1) n))) (adds i (omega (arith, e, few)))
@@ -150,8 +158,8 @@ module _ (last : Option ℕ) (format time : ℕ) (own : Own) where
 
 words_in_range : (picture : Picture) → IsPictureInRange picture → All IsWordInRange (moment_words picture)
 words_in_range picture ok =
-    All-cons IsWordInRange (says.Moment picture.time) (says.Own picture.own ∷ said picture.traffic.items) tt
-    (All-cons IsWordInRange (says.Own picture.own) (said picture.traffic.items) ok.own
+    All-cons IsWordInRange (says.Moment picture.time) (says.Own picture.own no_error ∷ said picture.traffic.items) tt
+    (All-cons IsWordInRange (says.Own picture.own no_error) (said picture.traffic.items) (ok.own, no_error-range)
     (All-append IsWordInRange (map (λ t. says.Traffic t) picture.traffic.items) (says.End ∷ [])
     (All-map IsWordInRange (λ (t : Traffic). says.Traffic t) picture.traffic.items ok.traffic)
     (All-from_recursion IsWordInRange (says.End ∷ []) (tt, tt))))
@@ -165,7 +173,7 @@ module _ (output : Outputs) (time at : ℕ) (state : MomentsState) (closed : sta
   all_accepted =
       let own = own_at output at in
       steps_next (stepped state None) (stepped (record state { moment = Some (empty_moment time) }) None) (says.Moment time) _ (begins state time closed earlier)
-      ∙ steps_next (stepped (record state { moment = Some (empty_moment time) }) None) (open_with state.last state.format time own []) (says.Own own) _ (owns state.last state.format time own)
+      ∙ steps_next (stepped (record state { moment = Some (empty_moment time) }) None) (open_with state.last state.format time own []) (says.Own own no_error) _ (owns state.last state.format time own)
       ∙ all_said state.last state.format time own output own.alt (at + 5) (count_at output at) (count_few output at)
 
   pub drawn_taken : time < 2 ^ 32 → IsTaken state (moment_at output time at)

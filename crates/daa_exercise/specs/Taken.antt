@@ -1,5 +1,6 @@
 -- A moment as the words of state lines say it, and what the steps from word to word make of them.
 use Rattle.std.specs.Prelude.{◌≡◌, pos, List, [], ◌∷◌, ◌++◌, map, All, Some, None, Ok}
+use Rattle.daa_state.specs.Bounds.{no_error}
 use Rattle.daa_state.specs.Fault.{Checked, ◌>>=◌}
 use Rattle.daa_state.specs.InRange.{IsWithin, IsWordInRange}
 use Rattle.daa_state.specs.MomentStep.{MomentsState, Stepped, step, stepped}
@@ -9,10 +10,10 @@ use Rattle.daa_state.specs.declared.word.Picture.{Picture}
 use Rattle.daa_state.specs.declared.word.Word.{Word}
 use Rattle.daa_state.specs.declared.word.Word.TheVariants as says
 
--- the words that say a moment: its time, its ownship, each aircraft in order, and its end
+-- the words that say a moment whose ownship's report is taken as the truth: its time, its ownship, each aircraft in order, and its end
 abbrev pub moment_words : Picture → List Word
 moment_words picture =
-    says.Moment picture.time ∷ says.Own picture.own ∷ (map (λ aircraft. says.Traffic aircraft) (aircraft_of picture) ++ says.End ∷ [])
+    says.Moment picture.time ∷ says.Own picture.own no_error ∷ (map (λ aircraft. says.Traffic aircraft) (aircraft_of picture) ++ says.End ∷ [])
 
 -- what words make of a state, one after the other, or why the first that is refused is
 unfoldable pub steps : Stepped → List Word → Checked Stepped

@@ -26,6 +26,7 @@ use Rattle.daa_state.specs.declared.word.PairBounds.{PairBounds}
 use Rattle.daa_state.specs.declared.word.ReportBounds.{ReportBounds}
 use Rattle.daa_meet.specs.Wider.{AreBoundsNoWider, IsReportNoWider, bounded}
 use Rattle.daa_legs.specs.Errors.{is_exact, are_exact, errors_on}
+use Rattle.daa_legs.specs.Violating.{ViolatesBy, ViolatesIf}
 use Rattle.daa_legs.specs.Meeting.{relative_leg, ViolatesOn}
 use Rattle.daa_legs.specs.Runs.{MeetsBetween}
 use Rattle.daa_legs.proofs.Exactness.{exact_leg, unsure_leg}
@@ -214,28 +215,27 @@ within_self errors leg n d n0 d1 = record {
     up : (x e : ℤ) → pos 0 ≤ℤ e → pos (unsigned_abs (x -ℤ x)) ≤ℤ e
     up x e h = omega (arith, ints)
 
-module _ (settings : Settings) (own : Own) (candidate : Candidate) (aircraft : Traffic) (volume : Volume) (k : ℕ) where
-  abbrev on : Leg
-  on = relative_leg settings own candidate aircraft k
-
-  -- a violation in truth at some time of leg k
-  pub truth_on : (truth : Leg) (n d : ℤ) → IsTime 1 n d → IsWithinErrors (errors_on aircraft.bounds aircraft.age k) truth on n d → Violates truth volume n d
-      → ViolatesOn settings own candidate aircraft volume k
-  truth_on truth n d t w h = go (are_exact aircraft.bounds) refl
+-- a violation in truth at some time of a leg that begins at second k
+module _ (aircraft : Traffic) (k : ℕ) (leg truth : Leg) (volume : Volume) (n d : ℤ) (n0 : pos 0 ≤ℤ n) (d1 : pos 1 ≤ℤ d) where
+  pub truth_by : IsWithinErrors (errors_on aircraft.bounds aircraft.age k) truth leg n d → Violates truth volume n d → ViolatesBy aircraft k leg volume n d
+  truth_by w h = go (are_exact aircraft.bounds) refl
     where
-      go : (b : Bool) → are_exact aircraft.bounds ≡ b → ViolatesOn settings own candidate aircraft volume k
-      go true e = (exact_leg settings own candidate aircraft volume e k).1 (record {
-        num = n;
-        den = d;
-        time = t;
-        holds = reported_too truth on n d (subst (λ (x : ErrorBounds). IsWithinErrors x truth on n d) (no_errors aircraft.bounds aircraft.age k e) w) volume h;
-      })
-      go false e = (unsure_leg settings own candidate aircraft volume e k).1 (record {
-        num = n;
-        den = d;
-        time = t;
-        holds = both_parts truth on volume (errors_on aircraft.bounds aircraft.age k) n d t.from t.fraction w h;
-      })
+      go : (b : Bool) → are_exact aircraft.bounds ≡ b → ViolatesIf (are_exact aircraft.bounds) leg volume (errors_on aircraft.bounds aircraft.age k) n d
+      go true e = subst (λ (b : Bool). ViolatesIf b leg volume (errors_on aircraft.bounds aircraft.age k) n d) (sym e)
+          (reported_too truth leg n d (subst (λ (x : ErrorBounds). IsWithinErrors x truth leg n d) (no_errors aircraft.bounds aircraft.age k e) w) volume h)
+      go false e = subst (λ (b : Bool). ViolatesIf b leg volume (errors_on aircraft.bounds aircraft.age k) n d) (sym e)
+          (both_parts truth leg volume (errors_on aircraft.bounds aircraft.age k) n d n0 d1 w h)
+
+-- the same of leg k of a candidate's flight
+pub truth_on : (settings : Settings) (own : Own) (candidate : Candidate) (aircraft : Traffic) (volume : Volume) (k : ℕ) (truth : Leg) (n d : ℤ) → IsTime 1 n d
+    → IsWithinErrors (errors_on aircraft.bounds aircraft.age k) truth (relative_leg settings own candidate aircraft k) n d → Violates truth volume n d
+    → ViolatesOn settings own candidate aircraft volume k
+truth_on settings own candidate aircraft volume k truth n d t w h = record {
+  num = n;
+  den = d;
+  time = t;
+  holds = truth_by aircraft k (relative_leg settings own candidate aircraft k) truth volume n d t.from t.fraction w h;
+}
 
 -- what may not be met is clear for every truth
 pub clear_in_truth : (settings : Settings) (own : Own) (candidate : Candidate) (aircraft : Traffic) (volume : Volume) (from upto : ℕ)

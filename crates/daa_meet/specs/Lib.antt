@@ -1,2 +1,3 @@
 pub mod Wider
 pub mod Offset
+pub mod InTruth

@@ -10,10 +10,12 @@ ghost use Rattle.daa_config.specs.Settings.{Settings, IsAccepted, IsCandidateInR
 ghost use Rattle.daa_state.specs.declared.word.Own.{Own};
 ghost use Rattle.daa_state.specs.declared.word.Traffic.{Traffic};
 ghost use Rattle.daa_state.specs.InRange.{IsOwnInRange, IsTrafficInRange};
+ghost use Rattle.daa_legs.specs.Violating.{ViolatesBy};
 ghost use Rattle.daa_legs.specs.Meeting.{relative_leg, ViolatesOn};
 ghost use Rattle.daa_legs.specs.Runs.{MeetsBetween};
 ghost use Rattle.daa_margin.specs.ErrorBounds.{IsWithinErrors};
 ghost use Rattle.daa_state.specs.declared.word.PairBounds.{PairBounds};
+ghost use Rattle.daa_meet.specs.InTruth.{ViolatesInTruth};
 ghost use Rattle.daa_meet.specs.Wider.{AreBoundsNoWider, bounded};
 ghost use Rattle.daa_legs.specs.Errors.{are_exact, errors_on};
 ghost use Rattle.daa_meet.specs.Offset.{IsWithinBounds, Offset, true_leg};
@@ -24,6 +26,17 @@ pub fn exact_reports_are_taken_as_the_truth()
         (volume : Volume) (k : ℕ) → are_exact aircraft.bounds ≡ true →
         ViolatesOn settings own candidate aircraft volume k
         ↔ HoldsSometime 1 (Violates (relative_leg settings own candidate aircraft k) volume) }
+{}
+
+/// No true violation of any leg is missed: where some truth that is within what the reports may
+/// err by violates the volume at a time of a leg that begins at second k, by any of the four
+/// models, the aircraft violates it as it is decided. So a flight that is decided to be clear is
+/// clear in truth.
+pub fn no_true_violation_of_a_leg_is_missed()
+    ensures { (aircraft : Traffic) (k : ℕ) (leg : Leg) (volume : Volume) (n d : ℤ) →
+        pos 0 ≤ℤ n → pos 1 ≤ℤ d →
+        ViolatesInTruth aircraft k leg volume n d →
+        ViolatesBy aircraft k leg volume n d }
 {}
 
 /// No true violation is missed: where the truth violates the volume at some time of leg k, by any

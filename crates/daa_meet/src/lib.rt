@@ -13,8 +13,8 @@ mod walk;
 pub use errors::{are_exact, errors_on};
 pub use laws::{
     constant_errors_are_within, exact_reports_are_taken_as_the_truth, flights_are_decidable,
-    no_true_violation_is_missed, what_may_not_meet_is_clear, wider_bounds_meet_no_less,
-    worked_examples,
+    no_true_violation_is_missed, no_true_violation_of_a_leg_is_missed, what_may_not_meet_is_clear,
+    wider_bounds_meet_no_less, worked_examples,
 };
 pub use leg::violates_on;
 pub use now::violates_now;

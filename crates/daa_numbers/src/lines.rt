@@ -3,13 +3,14 @@
 ghost use Rattle.std.specs.Prelude.{◌≡◌, ◌≢◌, ◌≤◌, pos, negsuc, true, false, OnOk, OnErr, IfOk, IfErr};
 ghost use Rattle.std.specs.List.{list_any};
 ghost use Rattle.std.specs.Str.{bytes_eq};
-ghost use Rattle.daa_state.specs.Bounds.{IsSure, IsSureWord};
+ghost use Rattle.daa_state.specs.Bounds.{no_error};
+ghost use Rattle.daa_state.specs.Sure.{IsSure, IsSureWord};
 ghost use Rattle.daa_state.specs.Fault.{code_of};
 ghost use Rattle.daa_state.specs.InRange.{IsFormat, IsWordInRange};
 ghost use Rattle.daa_state.specs.MomentStep.{has_id};
 ghost use Rattle.daa_numbers.specs.Lines.{format_by, aircraft_by, IsLineTaken, IsLineRefused};
-ghost use Rattle.daa_numbers.specs.Lines.{KeepsMoment};
-ghost use Rattle.daa_numbers.specs.Inside.Lines.{IsStep, IsNoStep};
+ghost use Rattle.daa_numbers.specs.Lines.{KeepsMoment, asks_for_bounds, early_word_of};
+ghost use Rattle.daa_numbers.specs.Inside.Lines.{IsStep, IsNoStep, IsOfEarlyFormat};
 ghost use Rattle.daa_numbers.specs.States.{text_of, traffic_of};
 
 use crate::codes::MOMENT_ENDED;
@@ -38,6 +39,7 @@ pub struct DaaLines {
 fn format(lines: &DaaLines) -> u32
     ensures value { result ≡ format_by lines.now.format }
     ensures range { IsFormat result }
+    ensures early { result ≤ 2 }
 {
     if lines.format == 2 { 2 } else { 1 }
 }
@@ -94,8 +96,8 @@ fn begin(lines: &mut DaaLines, time: u32) -> Result<(), LineFault>
 /// Adds the ownship to the open moment, or says why it is refused.
 #[tactic(auto, unfolding(daa_state::specs::MomentStep::step, daa_state::specs::MomentStep::with_own))]
 fn add_own(lines: &mut DaaLines, own: &Own) -> Result<(), LineFault>
-    ensures taken { OnOk result (IsStep lines.old (Word.Own own.now) false lines.new) }
-    ensures refused { IfErr result (IsNoStep lines.old (Word.Own own.now)) }
+    ensures taken { OnOk result (IsStep lines.old (Word.Own own.now no_error) false lines.new) }
+    ensures refused { IfErr result (IsNoStep lines.old (Word.Own own.now no_error)) }
     ensures kept { OnErr result (lines.new ≡ lines.old) }
     ensures stays { lines.new.opened ≡ 0 → KeepsMoment lines.old lines.new }
     ensures few { lines.old.count ≤ 64 → lines.new.count ≤ 64 }
@@ -160,7 +162,8 @@ fn add_traffic(lines: &mut DaaLines, traffic: &Traffic) -> Result<(), LineFault>
 /// Sets the format of the lines that come, or says why it is refused.
 #[tactic(auto, unfolding(daa_state::specs::MomentStep::step))]
 fn set_format(lines: &mut DaaLines, format: u32) -> Result<(), LineFault>
-    requires { IsFormat format }
+    requires range { IsFormat format }
+    requires early { format ≤ 2 }
     ensures taken { OnOk result (IsStep lines.old (Word.Format format) false lines.new) }
     ensures refused { IfErr result (IsNoStep lines.old (Word.Format format)) }
     ensures kept { OnErr result (lines.new ≡ lines.old) }
@@ -200,6 +203,7 @@ fn end(lines: &mut DaaLines) -> Result<(), LineFault>
 fn take(lines: &mut DaaLines, word: &Word) -> Result<bool, LineFault>
     requires range { IsWordInRange word.now }
     requires sure { IsSureWord word.now }
+    requires early { IsOfEarlyFormat word.now }
     ensures taken { IfOk result (λ ended. IsStep lines.old word.now ended lines.new) }
     ensures refused { IfErr result (IsNoStep lines.old word.now) }
     ensures kept { OnErr result (lines.new ≡ lines.old) }
@@ -208,7 +212,7 @@ fn take(lines: &mut DaaLines, word: &Word) -> Result<bool, LineFault>
 {
     match word {
         Word::Moment(time) => begin(lines, *time)?,
-        Word::Own(own) => add_own(lines, own)?,
+        Word::Own(own, _) => add_own(lines, own)?,
         Word::Traffic(traffic) => add_traffic(lines, traffic)?,
         Word::Format(format) => set_format(lines, *format)?,
         Word::Skip => {}
@@ -227,9 +231,34 @@ fn fault_number(fault: LineFault) -> i32
     i32::from(fault.code())
 }
 
-/// Takes the next state line. Returns 0; or -1 if the line ended the moment, whose numbers stay
-/// until the next one begins; or the number of the line's fault, 1 to 13, and then nothing has
-/// changed. Where at most 64 aircraft were counted, at most 64 are then.
+/// The word of a line in format 1 or 2, or the line's fault. Format 3, in which reports have
+/// bounds, is refused.
+fn early_word(line: &[u8], format: u32) -> Result<Word, LineFault>
+    requires range { IsFormat format }
+    requires early { format ≤ 2 }
+    ensures value { result ≡ early_word_of line.now format }
+    ensures range { IfOk result IsWordInRange }
+    ensures sure { IfOk result IsSureWord }
+    ensures early { IfOk result IsOfEarlyFormat }
+{
+    let word = read_line(line, format)?;
+    if asks_for_bounds(&word) {
+        return Err(LineFault::OutOfRange);
+    }
+    Ok(word)
+}
+
+/// Whether the lines that follow have bounds.
+fn asks_for_bounds(word: &Word) -> bool
+    ensures { result ≡ asks_for_bounds word.now }
+{
+    matches!(word, Word::Format(3))
+}
+
+/// Takes the next state line, in format 1 or 2. Format 3, in which reports have bounds, is refused
+/// with 6, as a number that is out of its range. Returns 0; or -1 if the line ended the moment,
+/// whose numbers stay until the next one begins; or the number of the line's fault, 1 to 13, and
+/// then nothing has changed. Where at most 64 aircraft were counted, at most 64 are then.
 pub fn line(line: &[u8], lines: &mut DaaLines) -> i32
     ensures taken { result ≡ pos 0 → IsLineTaken lines.old line.now false lines.new }
     ensures ended { result ≡ negsuc 0 → IsLineTaken lines.old line.now true lines.new }
@@ -238,7 +267,7 @@ pub fn line(line: &[u8], lines: &mut DaaLines) -> i32
     ensures stays { lines.new.opened ≡ 0 → KeepsMoment lines.old lines.new }
     ensures few { lines.old.count ≤ 64 → lines.new.count ≤ 64 }
 {
-    let word = match read_line(line, format(lines)) {
+    let word = match early_word(line, format(lines)) {
         Ok(word) => word,
         Err(fault) => return fault_number(fault),
     };

@@ -2,6 +2,7 @@
 use Rattle.std.proofs.Common.{◌≡◌, ◌≤◌, ◌-◌, ◌∙◌, ℕ, Bool, true, false, length, Option, None, Some, Ok, Err, IfOk, IfSome, is_some, if◌then◌else◌, refl, sym, ap, ap₂, subst, arith}
 use Rattle.daa_lines.specs.LinesOf.{Bytes}
 use Rattle.daa_lines.specs.LinesState.{LinesState}
+use Rattle.daa_state.specs.Bounds.{no_error}
 use Rattle.daa_state.specs.Fault.{Checked, ◌>>=◌}
 use Rattle.daa_state.specs.InRange.{IsFormat}
 use Rattle.daa_state.specs.MomentStep.{MomentsState, Stepped, begun_moment, ended_picture, start, step, stepped, with_moment, with_own, with_traffic}
@@ -58,7 +59,7 @@ after state word = next_state state (step state word)
 
 -- after a whole moment
 pub after_moment : (format time : ℕ) (own : Own) →
-    after (after (after (record { moment = None; last = None; format = format }) (says.Moment time)) (says.Own own)) says.End
+    after (after (after (record { moment = None; last = None; format = format }) (says.Moment time)) (says.Own own no_error)) says.End
     ≡ record { moment = None; last = Some time; format = format }
 unfolding step begun_moment with_own ended_picture
 after_moment format time own = refl
@@ -69,10 +70,10 @@ moments-none place m0 m1 begun formed last =
     ∙ (λ i. record { moment = None; last = sym last i; format = place.format })
 
 pub moments-some : (place : Checkpoint) (time : ℕ) (own : Own) (m0 m1 m2 m3 m4 : MomentsState) → m0 ≡ start → m1 ≡ after m0 (says.Format place.format) → m2 ≡ after m1 (says.Moment time)
-    → m3 ≡ after m2 (says.Own own) → m4 ≡ after m3 says.End → place.last ≡ Some time → m4 ≡ moments_at place
+    → m3 ≡ after m2 (says.Own own no_error) → m4 ≡ after m3 says.End → place.last ≡ Some time → m4 ≡ moments_at place
 moments-some place time own m0 m1 m2 m3 m4 begun formed opened owned closed last =
     closed
-    ∙ ap (λ (m : MomentsState). after m says.End) (owned ∙ ap (λ (m : MomentsState). after m (says.Own own)) (opened ∙ ap (λ (m : MomentsState). after m (says.Moment time))
+    ∙ ap (λ (m : MomentsState). after m says.End) (owned ∙ ap (λ (m : MomentsState). after m (says.Own own no_error)) (opened ∙ ap (λ (m : MomentsState). after m (says.Moment time))
     (formed ∙ ap (λ (m : MomentsState). after m (says.Format place.format)) begun ∙ after_format place.format)))
     ∙ after_moment place.format time own
     ∙ (λ i. record { moment = None; last = sym last i; format = place.format })
@@ -99,7 +100,7 @@ ended_last state (Err fault) = tt
 ends_last : (state : MomentsState) (word : Word) → IfOk (step state word) EndsLast
 unfolding step
 ends_last state (says.Moment time) = made_last state (begun_moment state.moment state.last time)
-ends_last state (says.Own own) = made_last state (with_own state.moment own)
+ends_last state (says.Own own bounds) = made_last state (with_own state.moment own bounds)
 ends_last state (says.Traffic traffic) = made_last state (with_traffic state.moment traffic)
 ends_last state (says.Format format) = format_last (is_some state.moment) (record state { format = format })
 ends_last state says.End = ended_last state (ended_picture state.moment)

@@ -14,6 +14,8 @@ pub mod OpeningLemmas
 pub mod PictureLemmas
 pub mod SomeReport
 pub mod AgeLemmas
+pub mod EarlyLemmas
 pub mod RunLemmas
 pub mod JudgeLemmas
 pub mod ComparedLemmas
+pub mod ClearLemmas

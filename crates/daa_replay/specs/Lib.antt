@@ -7,5 +7,7 @@ pub mod Replay
 pub mod Judge
 pub mod Tasks
 pub mod Run
+pub mod Clear
+pub mod EarlyFormats
 pub mod Complete
 pub mod Inside

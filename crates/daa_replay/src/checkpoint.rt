@@ -12,7 +12,7 @@ ghost use Rattle.daa_replay.specs.Inside.Checkpoint.{HasLast, IsCheckpoint, line
 
 use crate::lines::{Event, step};
 use daa_lines::Lines;
-use daa_state::{Moments, Own, Word};
+use daa_state::{Moments, Own, ReportBounds, Word};
 
 /// No place has so many bytes before it, in a piece or in an input.
 const MOST_BYTES: u64 = 1 << 62;
@@ -69,7 +69,7 @@ impl Checkpoint {
                     vs: 0,
                 };
                 take_in(&mut moments, Word::Moment(time));
-                take_in(&mut moments, Word::Own(own));
+                take_in(&mut moments, Word::Own(own, ReportBounds::EXACT));
                 take_in(&mut moments, Word::End);
                 moments
             }
@@ -85,7 +85,7 @@ impl Checkpoint {
             && self.fed < MOST_BYTES
             && self.number <= self.fed
             && 1 <= self.format
-            && self.format <= 2
+            && self.format <= 3
     }
 
     /// Whether it is this place.

@@ -7,8 +7,10 @@ ghost use Rattle.daa_lines.specs.LinesOf.{Bytes};
 ghost use Rattle.daa_report.specs.Lines.{Text};
 ghost use Rattle.daa_replay.specs.declared.lines.Event.{Event};
 ghost use Rattle.daa_replay.specs.Lines.{events_of, IsEventInRange};
+ghost use Rattle.daa_replay.specs.EarlyFormats.{HasNoBounds};
 ghost use Rattle.daa_replay.specs.FourWordLines.{HasNoAges, ReadsAsFourWords};
 ghost use Rattle.daa_replay.specs.Moment.{IsReportFront, IsReportOf};
+ghost use Rattle.daa_replay.specs.Clear.{IsClearReportOf};
 ghost use Rattle.daa_replay.specs.Complete.{RunsAreComplete};
 ghost use Rattle.daa_replay.specs.Opening.{ConfigurationsAreUnique};
 
@@ -20,6 +22,16 @@ use daa_state::LineFault;
 pub fn every_input_has_one_report()
     ensures { (settings : Settings) (bytes : Bytes) (ended : Bool) → IsAccepted settings
         → HasOne (IsReportOf settings bytes ended) }
+{}
+
+/// What a report says to be clear is clear in truth. Under an accepted configuration the report of
+/// an input is the text of each event; and what that of an ended moment says to be clear, by its
+/// levels, bands, answers, last times and recoveries, is so for every truth that is within what the
+/// moment's reports may err by.
+pub fn reports_say_what_is_clear_in_truth()
+    ensures { (settings : Settings) (bytes : Bytes) (ended : Bool) (text : Text)
+        → IsAccepted settings
+        → IsReportOf settings bytes ended text → IsClearReportOf settings bytes ended text }
 {}
 
 /// The picture of every moment that an input ends is in range.
@@ -48,6 +60,12 @@ pub fn events_only_grow()
 pub fn format_lines_alone_matter()
     ensures words { ReadsAsFourWords }
     ensures ages { HasNoAges }
+{}
+
+/// An input of which no line says that format 3 follows has no bounds: each of its reports is taken
+/// as the truth.
+pub fn inputs_without_format_3_have_no_bounds()
+    ensures { HasNoBounds }
 {}
 
 /// How a run ends, by its words, the shelf and the number of bytes. With an accepted configuration

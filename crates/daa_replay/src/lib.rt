@@ -21,7 +21,8 @@ mod status;
 
 pub use laws::{
     configurations_are_unique, ended_moments_are_in_range, events_only_grow,
-    every_input_has_one_report, format_lines_alone_matter, fronts_begin_reports, runs_are_complete,
+    every_input_has_one_report, format_lines_alone_matter, fronts_begin_reports,
+    inputs_without_format_3_have_no_bounds, reports_say_what_is_clear_in_truth, runs_are_complete,
     worked_examples,
 };
 pub use lines::Event;

@@ -8,10 +8,10 @@ use Rattle.daa_state.specs.Fields.{fields_of}
 use Rattle.daa_state.specs.Inside.Texts.{Bytes}
 use Rattle.daa_state.specs.FourWords.{begins_with_format, four_word_of_fields, four_word_of}
 use Rattle.daa_state.specs.Laws.{is_format_word, OnlyFormatLinesSayFormats, ReadsAsFourWords, OtherWordsLeaveTheFormat}
-use Rattle.daa_state.specs.Number.{number_in, count_in}
-use Rattle.daa_state.specs.Ranges.{positions, altitudes, tracks, ground_speeds, vertical_speeds, ages, times}
+use Rattle.daa_state.specs.Number.{count_in}
+use Rattle.daa_state.specs.Ranges.{ages, times}
 use Rattle.daa_state.specs.MomentStep.{step, begun_moment, with_own, with_traffic, ended_picture}
-use Rattle.daa_state.specs.WordOf.{word_of, word_of_fields, number_word, own_of, traffic_of, aged_traffic_of, aircraft, end_of}
+use Rattle.daa_state.specs.WordOf.{word_of, word_of_fields, number_word, own_of, bounded_own_of, ownship, report_bounds, traffic_of, aged_traffic_of, bounded_traffic_of, aircraft, end_of}
 use Rattle.daa_state.specs.declared.word.Word.{Word}
 use Rattle.daa_state.specs.declared.word.Word.TheVariants as says
 use Rattle.daa_state.proofs.CheckedLemmas.{IfOk-any, IfOk-if}
@@ -27,10 +27,14 @@ moment-none (a ∷ b ∷ fields) = tt
 
 own_of-none : (fields : List Bytes) → SaysNoFormat (own_of fields)
 unfolding own_of
-own_of-none (x ∷ y ∷ alt ∷ trk ∷ gs ∷ vs ∷ []) =
-    IfOk-any _ (number_in positions x) _ (λ x. IfOk-any _ (number_in positions y) _ (λ y. IfOk-any _ (number_in altitudes alt) _ (λ alt.
-    IfOk-any _ (number_in tracks trk) _ (λ trk. IfOk-any _ (number_in ground_speeds gs) _ (λ gs. IfOk-any _ (number_in vertical_speeds vs) _ (λ vs. refl))))))
+own_of-none (x ∷ y ∷ alt ∷ trk ∷ gs ∷ vs ∷ []) = IfOk-any _ (ownship x y alt trk gs vs) _ (λ own. refl)
 own_of-none _ = tt
+
+bounded_own_of-none : (fields : List Bytes) → SaysNoFormat (bounded_own_of fields)
+unfolding bounded_own_of
+bounded_own_of-none (x ∷ y ∷ alt ∷ trk ∷ gs ∷ vs ∷ p ∷ v ∷ s ∷ w ∷ []) =
+    IfOk-any _ (ownship x y alt trk gs vs) _ (λ own. IfOk-any _ (report_bounds p v s w) _ (λ bounds. refl))
+bounded_own_of-none _ = tt
 
 traffic_of-none : (fields : List Bytes) → SaysNoFormat (traffic_of fields)
 unfolding traffic_of
@@ -42,6 +46,12 @@ unfolding aged_traffic_of
 aged_traffic_of-none (a ∷ b ∷ c ∷ d ∷ e ∷ f ∷ g ∷ h ∷ []) =
     IfOk-any _ (aircraft a b c d e f g) _ (λ traffic. IfOk-any _ (count_in ages h) _ (λ seconds. refl))
 aged_traffic_of-none _ = tt
+
+bounded_traffic_of-none : (fields : List Bytes) → SaysNoFormat (bounded_traffic_of fields)
+unfolding bounded_traffic_of
+bounded_traffic_of-none (a ∷ b ∷ c ∷ d ∷ e ∷ f ∷ g ∷ h ∷ p ∷ v ∷ s ∷ w ∷ []) =
+    IfOk-any _ (aircraft a b c d e f g) _ (λ traffic. IfOk-any _ (count_in ages h) _ (λ seconds. IfOk-any _ (report_bounds p v s w) _ (λ bounds. refl)))
+bounded_traffic_of-none _ = tt
 
 end_of-none : (fields : List Bytes) → SaysNoFormat (end_of fields)
 unfolding end_of
@@ -55,9 +65,11 @@ word_of_fields-none format (name ∷ fields) h =
     rw h (
     IfOk-if _ (slice_index name 0 == 35) _ _ refl (
     IfOk-if _ (bytes_eq name (codes "moment")) _ _ (moment-none fields) (
-    IfOk-if _ (bytes_eq name (codes "own")) _ _ (own_of-none fields) (
+    IfOk-if _ (bytes_eq name (codes "own")) _ _
+    (IfOk-if (λ word. is_format_word word ≡ false) (format == 3) _ _ (bounded_own_of-none fields) (own_of-none fields)) (
     IfOk-if _ (bytes_eq name (codes "traffic")) _ _
-    (IfOk-if (λ word. is_format_word word ≡ false) (format == 2) _ _ (aged_traffic_of-none fields) (traffic_of-none fields)) (
+    (IfOk-if (λ word. is_format_word word ≡ false) (format == 3) _ _ (bounded_traffic_of-none fields)
+    (IfOk-if (λ word. is_format_word word ≡ false) (format == 2) _ _ (aged_traffic_of-none fields) (traffic_of-none fields))) (
     IfOk-if _ (bytes_eq name (codes "end")) _ _ (end_of-none fields) tt)))))
 
 pub only_format_lines_say_formats : OnlyFormatLinesSayFormats
@@ -77,7 +89,7 @@ word_of-four line h = rw (word_of_fields-four (fields_of (strip_carriage_return 
 pub step-format : OtherWordsLeaveTheFormat
 unfolding step
 step-format state (says.Moment time) h = IfOk-any _ (begun_moment state.moment state.last time) _ (λ moment. refl)
-step-format state (says.Own own) h = IfOk-any _ (with_own state.moment own) _ (λ moment. refl)
+step-format state (says.Own own bounds) h = IfOk-any _ (with_own state.moment own bounds) _ (λ moment. refl)
 step-format state (says.Traffic traffic) h = IfOk-any _ (with_traffic state.moment traffic) _ (λ moment. refl)
 step-format state (says.Format format) h = absurd (cc)
 step-format state says.End h = IfOk-any _ (ended_picture state.moment) _ (λ picture. refl)

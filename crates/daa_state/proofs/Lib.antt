@@ -6,6 +6,8 @@ pub mod StepLemmas
 pub mod WordLaws
 pub mod CheckedLemmas
 pub mod FormatLaws
+pub mod AlikeWords
+pub mod AlikeSteps
 pub mod AgeLaws
 pub mod SureLaws
 pub mod RangeLemmas

@@ -59,7 +59,7 @@ pub record AreBoundsInRange (bounds : PairBounds) : Type 0 where
   pub own : AreReportBoundsInRange bounds.own
   pub aircraft : AreReportBoundsInRange bounds.aircraft
 
--- the format of the lines is 1 or 2
+-- the format of the lines is 1, 2 or 3
 abbrev pub IsFormat : ℕ → Type 0
 IsFormat n = (unsigned_abs formats.low ≤ n) × (n ≤ unsigned_abs formats.high)
 
@@ -87,7 +87,7 @@ pub record IsTrafficInRange (traffic : Traffic) : Type 0 where
 -- the numbers of a word are in their ranges
 abbrev pub IsWordInRange : Word → Type 0
 IsWordInRange (says.Moment time) = Unit {0}
-IsWordInRange (says.Own own) = IsOwnInRange own
+IsWordInRange (says.Own own bounds) = IsOwnInRange own × AreReportBoundsInRange bounds
 IsWordInRange (says.Traffic traffic) = IsTrafficInRange traffic
 IsWordInRange (says.Format format) = IsFormat format
 IsWordInRange says.End = Unit {0}

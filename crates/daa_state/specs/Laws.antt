@@ -3,6 +3,7 @@ use Rattle.std.specs.Prelude.{ℕ, ◌≡◌, ◌≤◌, Bool, true, false, List
 use Rattle.daa_state.specs.WordOf.{word_of}
 use Rattle.daa_state.specs.FourWords.{is_format_line, four_word_of}
 use Rattle.daa_state.specs.Current.{IsCurrentWord, IsCurrentState, IsCurrentStep}
+use Rattle.daa_state.specs.Sure.{IsSureWord, IsSureState, IsSureStep}
 use Rattle.daa_state.specs.MomentStep.{MomentsState, step}
 use Rattle.daa_state.specs.declared.word.Word.{Word}
 use Rattle.daa_state.specs.declared.word.Word.TheVariants as says
@@ -21,7 +22,7 @@ First256BytesDecide = (line : List ℕ) (format : ℕ) → word_of (take 256 lin
 abbrev pub LongFrom256Bytes : Type 0
 LongFrom256Bytes = (line : List ℕ) (format : ℕ) → 256 ≤ length line → word_of line format ≡ Err LongLine
 
--- a line whose first field is not `format` gives no format word, in either format
+-- a line whose first field is not `format` gives no format word, in any format
 abbrev pub OnlyFormatLinesSayFormats : Type 0
 OnlyFormatLinesSayFormats = (line : List ℕ) (format : ℕ) → is_format_line line ≡ false
     → IfOk (word_of line format) (λ word. is_format_word word ≡ false)
@@ -44,3 +45,12 @@ Format1SaysNoAges = (line : List ℕ) → IfOk (word_of line 1) IsCurrentWord
 abbrev pub NoAgesLeaveNoAges : Type 0
 NoAgesLeaveNoAges = (state : MomentsState) (word : Word) → IsCurrentState state → IsCurrentWord word
     → IfOk (step state word) IsCurrentStep
+
+-- in formats 1 and 2 each report of a word is taken as the truth
+abbrev pub Formats1And2SayNoBounds : Type 0
+Formats1And2SayNoBounds = (line : List ℕ) (format : ℕ) → format ≤ 2 → IfOk (word_of line format) IsSureWord
+
+-- if each report of the open moment and of the word is taken as the truth, so is each of the open moment or of the picture after the step
+abbrev pub NoBoundsLeaveNoBounds : Type 0
+NoBoundsLeaveNoBounds = (state : MomentsState) (word : Word) → IsSureState state → IsSureWord word
+    → IfOk (step state word) IsSureStep

@@ -9,7 +9,9 @@ pub mod Picture
 pub mod MomentStep
 pub mod InRange
 pub mod FourWords
+pub mod Alike
 pub mod Current
+pub mod Sure
 pub mod Laws
 pub mod Checked
 pub mod Inside

@@ -1,10 +1,12 @@
 -- What a word makes of the moments.
-use Rattle.std.specs.Prelude.{ℕ, Bool, true, false, List, [], ◌∷◌, ◌++◌, ◌==◌, length, nat_le, is_some, ok_or, Option, Some, None, Ok, Err, if◌then◌else◌}
+use Rattle.std.specs.Prelude.{ℕ, Bool, true, false, List, [], ◌∷◌, ◌++◌, ◌==◌, length, nat_le, is_some, map, ok_or, Option, Some, None, Ok, Err, if◌then◌else◌}
 use Rattle.std.specs.List.{list_any}
 use Rattle.std.specs.Str.{bytes_eq}
 use Rattle.daa_state.specs.Fault.{Checked, ◌>>=◌, checked_map}
+use Rattle.daa_state.specs.Bounds.{no_error}
 use Rattle.daa_state.specs.declared.moments.Moment.{Moment}
 use Rattle.daa_state.specs.declared.word.Own.{Own}
+use Rattle.daa_state.specs.declared.word.ReportBounds.{ReportBounds}
 use Rattle.daa_state.specs.declared.word.Traffic.{Traffic}
 use Rattle.daa_state.specs.declared.word.Picture.{Picture}
 use Rattle.daa_state.specs.declared.word.Word.{Word}
@@ -32,7 +34,7 @@ stepped state picture = record { state = state; picture = picture }
 
 -- a moment of this time, without an ownship and aircraft
 abbrev pub empty_moment : ℕ → Moment
-empty_moment time = record { time = time; own = None; traffic = record { items = [] } }
+empty_moment time = record { time = time; own = None; bounds = no_error; traffic = record { items = [] } }
 
 -- a moment begins where none is open, later than the last ended one
 unfoldable pub begun_moment : Option Moment → Option ℕ → ℕ → Checked Moment
@@ -40,10 +42,10 @@ begun_moment (Some moment) last time = Err MomentOpen
 begun_moment None None time = Ok (empty_moment time)
 begun_moment None (Some last) time = if nat_le time last then Err (NotLater last) else Ok (empty_moment time)
 
--- the open moment gets its ownship
-unfoldable pub with_own : Option Moment → Own → Checked Moment
-with_own None own = Err NoMoment
-with_own (Some moment) own = if is_some moment.own then Err OwnTwice else Ok (record moment { own = Some own })
+-- the open moment gets its ownship, and what the ownship's report may err by
+unfoldable pub with_own : Option Moment → Own → ReportBounds → Checked Moment
+with_own None own bounds = Err NoMoment
+with_own (Some moment) own bounds = if is_some moment.own then Err OwnTwice else Ok (record moment { own = Some own; bounds = bounds })
 
 -- an aircraft of this identifier is there
 abbrev pub has_id : List ℕ → List Traffic → Bool
@@ -60,14 +62,23 @@ with_traffic (Some moment) traffic =
 -- the word begins a moment or adds to the open one
 abbrev pub is_addition : Word → Bool
 is_addition (says.Moment time) = true
-is_addition (says.Own own) = true
+is_addition (says.Own own bounds) = true
 is_addition (says.Traffic aircraft) = true
 is_addition word = false
+
+-- the aircraft, and beside its own bounds those of the ownship's report
+abbrev pub beside : ReportBounds → Traffic → Traffic
+beside own aircraft = record aircraft { bounds = record { own = own; aircraft = aircraft.bounds.aircraft } }
+
+-- the aircraft of an open moment, each with the bounds of the ownship's report too
+abbrev pub all_beside : Moment → List Traffic
+all_beside moment = map (beside moment.bounds) moment.traffic.items
 
 -- the open moment ends: its picture, if it has an ownship
 unfoldable pub ended_picture : Option Moment → Checked Picture
 ended_picture None = Err NoMoment
-ended_picture (Some moment) = checked_map (λ own. record { time = moment.time; own = own; traffic = moment.traffic }) (ok_or moment.own NoOwn)
+ended_picture (Some moment) =
+    checked_map (λ own. record { time = moment.time; own = own; traffic = record { items = all_beside moment } }) (ok_or moment.own NoOwn)
 
 -- what was made of the open moment takes its place, unless the word is refused
 abbrev pub with_moment : MomentsState → Checked Moment → Checked Stepped
@@ -76,7 +87,7 @@ with_moment state made = checked_map (λ moment. stepped (record state { moment 
 -- what a word makes of a state, or why it is refused; then the state stays
 unfoldable pub step : MomentsState → Word → Checked Stepped
 step state (says.Moment time) = with_moment state (begun_moment state.moment state.last time)
-step state (says.Own own) = with_moment state (with_own state.moment own)
+step state (says.Own own bounds) = with_moment state (with_own state.moment own bounds)
 step state (says.Traffic traffic) = with_moment state (with_traffic state.moment traffic)
 step state (says.Format format) =
     if is_some state.moment then Err MomentOpen else Ok (stepped (record state { format = format }) None)

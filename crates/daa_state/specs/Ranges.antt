@@ -40,7 +40,7 @@ error_bounds = record { low = pos 0; high = pos 10000 }
 
 -- the formats of the lines
 abbrev pub formats : Bounds
-formats = record { low = pos 1; high = pos 2 }
+formats = record { low = pos 1; high = pos 3 }
 
 -- the times of moments, in seconds
 abbrev pub times : Bounds

@@ -7,11 +7,11 @@ ghost use Rattle.daa_state.specs.Inside.Texts.{texts};
 use arrayvec::ArrayVec;
 
 /// Enough places to see that a line has more fields than any word takes, its name counted.
-pub(crate) const MOST_FIELDS: usize = 10;
+pub(crate) const MOST_FIELDS: usize = 14;
 
 /// The first fields of a line.
 pub(crate) fn fields(line: &[u8]) -> ArrayVec<&[u8], MOST_FIELDS>
-    ensures { texts result.items ≡ take 10 (fields_of line.now) }
+    ensures { texts result.items ≡ take 14 (fields_of line.now) }
 {
     let mut fields = ArrayVec::new();
     for field in line.split(|b| is_blank(*b)) {

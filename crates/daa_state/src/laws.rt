@@ -2,12 +2,13 @@
 
 ghost use Rattle.std.specs.Prelude.{◌≡◌, ◌∷◌, [], pos, negsuc, codes, replicate, None};
 ghost use Rattle.daa_state.specs.WordOf.{word_of};
-ghost use Rattle.daa_state.specs.Bounds.{exact};
+ghost use Rattle.daa_state.specs.Bounds.{no_error, exact};
 ghost use Rattle.daa_state.specs.MomentStep.{step, empty_moment};
 ghost use Rattle.daa_state.specs.Laws.{First256BytesDecide, LongFrom256Bytes};
 ghost use Rattle.daa_state.specs.Laws.{OnlyFormatLinesSayFormats};
 ghost use Rattle.daa_state.specs.Laws.{ReadsAsFourWords, OtherWordsLeaveTheFormat};
 ghost use Rattle.daa_state.specs.Laws.{Format1SaysNoAges, NoAgesLeaveNoAges};
+ghost use Rattle.daa_state.specs.Laws.{Formats1And2SayNoBounds, NoBoundsLeaveNoBounds};
 
 use crate::fault::LineFault;
 use crate::word::Word;
@@ -38,6 +39,13 @@ pub fn format_1_has_no_ages()
     ensures steps { NoAgesLeaveNoAges }
 {}
 
+/// In formats 1 and 2 each report is taken as the truth. If each report of the words of a moment
+/// is, so is each of the moment and of its picture.
+pub fn formats_1_and_2_have_no_bounds()
+    ensures words { Formats1And2SayNoBounds }
+    ensures steps { NoBoundsLeaveNoBounds }
+{}
+
 /// Lines and steps whose answers are known: the word of each line, and what each word makes of the
 /// state before it.
 pub fn worked_examples()
@@ -49,7 +57,7 @@ pub fn worked_examples()
           trk = pos 0;
           gs = pos 3600;
           vs = pos 0;
-        })) }
+        }) no_error) }
     ensures blanks_and_age { word_of (codes " traffic\ta-1  0 -1000 1000 0 3600 0 10\r") 2
         ≡ Ok (Word.Traffic (record {
           id = codes "a-1";
@@ -62,6 +70,32 @@ pub fn worked_examples()
           age = 10;
           bounds = exact;
         })) }
+    ensures bounds { word_of (codes "own 0 0 1000 0 3600 0 50 0 20 10000") 3
+        ≡ Ok (Word.Own (record {
+          x = pos 0;
+          y = pos 0;
+          alt = pos 1000;
+          trk = pos 0;
+          gs = pos 3600;
+          vs = pos 0;
+        }) (record { place = 50; height = 0; speed = 20; climb = 10000 })) }
+    ensures age_and_bounds { word_of (codes "traffic A 0 0 1000 0 0 0 60 1 2 3 4") 3
+        ≡ Ok (Word.Traffic (record {
+          id = codes "A";
+          x = pos 0;
+          y = pos 0;
+          alt = pos 1000;
+          vx = pos 0;
+          vy = pos 0;
+          vs = pos 0;
+          age = 60;
+          bounds = record {
+            own = no_error;
+            aircraft = record { place = 1; height = 2; speed = 3; climb = 4 };
+          };
+        })) }
+    ensures bounds_of_format_2 { word_of (codes "own 0 0 1000 0 3600 0 50 0 20 10000") 2
+        ≡ Err LineFault.FieldCount }
     ensures longest_comment { word_of (replicate 255 35) 1 ≡ Ok Word.Skip }
     ensures long_comment { word_of (replicate 256 35) 1 ≡ Err LineFault.LongLine }
     ensures capital { word_of (codes "Own") 1 ≡ Err LineFault.BadWord }

@@ -19,8 +19,8 @@ pub use checked::{Field, OutOfRange, PictureFault};
 pub use fault::LineFault;
 pub use id::Id;
 pub use laws::{
-    first_256_bytes_decide, format_1_has_no_ages, other_words_leave_the_format,
-    without_format_lines_four_words_are_read, worked_examples,
+    first_256_bytes_decide, format_1_has_no_ages, formats_1_and_2_have_no_bounds,
+    other_words_leave_the_format, without_format_lines_four_words_are_read, worked_examples,
 };
 pub use moments::Moments;
 pub use word::{MOST_AIRCRAFT, Own, PairBounds, Picture, ReportBounds, Traffic, Word};

@@ -2,26 +2,30 @@
 
 ghost use Rattle.std.specs.Prelude.{◌≡◌, ◌↔◌, None, IsSome, OnOk, IfSome};
 ghost use Rattle.std.specs.Prelude.{IsSomeAnd, OnErr, IfOk, IfErr, Ok, Err, Some};
-ghost use Rattle.std.specs.Prelude.{true, false, ◌<◌, ◌≤◌, length, ◌++◌, ◌∷◌, []};
+ghost use Rattle.std.specs.Prelude.{true, false, ◌<◌, ◌≤◌, length, ◌++◌, ◌∷◌, [], map};
 ghost use Rattle.std.specs.Str.{bytes_eq};
 ghost use Rattle.daa_state.specs.InRange.{IsFormat, IsWordInRange, IsOwnInRange};
+ghost use Rattle.daa_state.specs.InRange.{AreReportBoundsInRange};
 ghost use Rattle.daa_state.specs.InRange.{IsTrafficInRange, IsPictureInRange};
 ghost use Rattle.daa_state.specs.Inside.InRange.{IsMomentInRange};
 ghost use Rattle.daa_state.specs.MomentStep.{step, stepped, finished, start, begun_moment, is_addition};
 ghost use Rattle.daa_state.specs.MomentStep.{has_own, with_own, with_traffic, ended_picture, has_id};
+ghost use Rattle.daa_state.specs.MomentStep.{beside};
 
 use crate::fault::LineFault;
 use crate::id::Id;
-use crate::word::{MOST_AIRCRAFT, Own, Picture, Traffic, Word};
+use crate::word::{MOST_AIRCRAFT, Own, Picture, ReportBounds, Traffic, Word};
 use arrayvec::ArrayVec;
 use std::marker::Model;
 
-/// A moment that is open: its time in seconds, its ownship if it has one, and its aircraft in the
-/// order of their lines.
+/// A moment that is open: its time in seconds, its ownship if it has one, what the ownship's report
+/// may err by, and its aircraft in the order of their lines, whose bounds have only those of their
+/// own reports.
 #[derive(Debug, Drop)]
 pub struct Moment {
     pub time: u32,
     pub own: Option<Own>,
+    pub bounds: ReportBounds,
     pub traffic: ArrayVec<Traffic, MOST_AIRCRAFT>,
 }
 
@@ -78,8 +82,8 @@ impl Moments {
                 self.moment = Some(begin(&self.moment, self.last, time)?);
                 Ok(None)
             }
-            Word::Own(own) => {
-                add_own(&mut self.moment, own)?;
+            Word::Own(own, bounds) => {
+                add_own(&mut self.moment, own, bounds)?;
                 Ok(None)
             }
             Word::Traffic(traffic) => {
@@ -121,7 +125,7 @@ impl Moments {
                 }
                 Err(_) => false,
             },
-            Word::Own(own) => match add_own(&mut self.moment, *own) {
+            Word::Own(own, bounds) => match add_own(&mut self.moment, *own, *bounds) {
                 Ok(()) => true,
                 Err(_) => false,
             },
@@ -156,14 +160,16 @@ impl Moments {
         };
         let Some(own) = open.own else { unreachable!() };
         self.last = Some(open.time);
+        let mut traffic = open.traffic;
+        put_beside(&mut traffic, open.bounds);
         Picture {
             time: open.time,
             own,
-            traffic: open.traffic,
+            traffic,
         }
     }
 
-    /// The format, 1 or 2, of the lines that follow.
+    /// The format, 1 to 3, of the lines that follow.
     pub fn format(&self) -> u32
         ensures value { result ≡ self.now.format }
         ensures range { IsFormat result }
@@ -197,17 +203,20 @@ fn begin(moment: &Option<Moment>, last: Option<u32>, time: u32) -> Result<Moment
         _ => Ok(Moment {
             time,
             own: None,
+            bounds: ReportBounds::EXACT,
             traffic: ArrayVec::new(),
         }),
     }
 }
 
-/// Adds the ownship to the open moment, or says why it is refused.
+/// Adds the ownship, and what its report may err by, to the open moment, or says why it is refused.
 #[tactic(auto, unfolding(crate::specs::MomentStep::with_own))]
-fn add_own(moment: &mut Option<Moment>, own: Own) -> Result<(), LineFault>
+fn add_own(moment: &mut Option<Moment>, own: Own, bounds: ReportBounds) -> Result<(), LineFault>
     requires range { IsOwnInRange own }
-    ensures added { OnOk result (IsSomeAnd moment.new (λ new. with_own moment.old own ≡ Ok new)) }
-    ensures refused { IfErr result (λ fault. with_own moment.old own ≡ Err fault) }
+    requires bounds { AreReportBoundsInRange bounds }
+    ensures added { OnOk result
+        (IsSomeAnd moment.new (λ new. with_own moment.old own bounds ≡ Ok new)) }
+    ensures refused { IfErr result (λ fault. with_own moment.old own bounds ≡ Err fault) }
     ensures unchanged { OnErr result (moment.new ≡ moment.old) }
     ensures range { IfSome moment.old IsMomentInRange → IfSome moment.new IsMomentInRange }
 {
@@ -218,6 +227,7 @@ fn add_own(moment: &mut Option<Moment>, own: Own) -> Result<(), LineFault>
         return Err(LineFault::OwnTwice);
     }
     moment.own = Some(own);
+    moment.bounds = bounds;
     Ok(())
 }
 
@@ -251,6 +261,16 @@ fn has_id(traffic: &ArrayVec<Traffic, MOST_AIRCRAFT>, id: &Id) -> bool
     traffic.as_slice().iter().any(|aircraft| aircraft.id == *id)
 }
 
+/// Puts what the ownship's report may err by beside the bounds of each aircraft's own report.
+fn put_beside(traffic: &mut ArrayVec<Traffic, MOST_AIRCRAFT>, own: ReportBounds)
+    ensures put { traffic.new.items ≡ map (beside own) traffic.old.items }
+    ensures few { length traffic.new.items ≤ 64 }
+{
+    for aircraft in traffic.iter_mut() {
+        aircraft.bounds.own = own;
+    }
+}
+
 /// Takes the open moment out as a picture. `NoMoment` says that no moment is open, `NoOwn` that the
 /// open one has no ownship and stays open.
 #[tactic(auto, unfolding(crate::specs::MomentStep::ended_picture))]
@@ -267,9 +287,13 @@ fn end(moment: &mut Option<Moment>) -> Result<Picture, LineFault>
             Moment {
                 time,
                 own: Some(own),
-                traffic,
+                bounds,
+                mut traffic,
             },
-        ) => Ok(Picture { time, own, traffic }),
+        ) => {
+            put_beside(&mut traffic, bounds);
+            Ok(Picture { time, own, traffic })
+        }
         Some(open) => {
             *moment = Some(open);
             Err(LineFault::NoOwn)

@@ -10,9 +10,11 @@ ghost use Rattle.daa_state.specs.Number.{number, number_in, count_in};
 ghost use Rattle.daa_state.specs.Inside.Number.{has_minus, digits_of_field};
 ghost use Rattle.daa_state.specs.Inside.Number.{are_digits, size_of_digits};
 ghost use Rattle.daa_state.specs.Ranges.{positions, altitudes, tracks, ground_speeds};
-ghost use Rattle.daa_state.specs.Ranges.{speeds, vertical_speeds, ages, formats, times};
+ghost use Rattle.daa_state.specs.Ranges.{speeds, vertical_speeds, ages, error_bounds};
+ghost use Rattle.daa_state.specs.Ranges.{formats, times};
 ghost use Rattle.daa_state.specs.InRange.{IsPosition, IsAltitude, IsTrack, IsGroundSpeed};
-ghost use Rattle.daa_state.specs.InRange.{IsSpeed, IsVerticalSpeed, IsAge, IsFormat};
+ghost use Rattle.daa_state.specs.InRange.{IsSpeed, IsVerticalSpeed, IsAge, IsErrorBound};
+ghost use Rattle.daa_state.specs.InRange.{IsFormat};
 
 use crate::fault::LineFault;
 
@@ -161,14 +163,26 @@ pub(crate) fn age(field: &[u8]) -> Result<u32, LineFault>
     }
 }
 
-/// A format of the lines: 1 or 2.
+/// A format of the lines: 1, 2 or 3.
 #[tactic(auto, unfolding(crate::specs::Number::count_in, crate::specs::Number::number_in))]
 pub(crate) fn line_format(field: &[u8]) -> Result<u32, LineFault>
     ensures value { result ≡ count_in formats field.now }
     ensures range { IfOk result IsFormat }
 {
     match number(field)? {
-        n @ 1..=2 => Ok(n as u32),
+        n @ 1..=3 => Ok(n as u32),
+        _ => Err(LineFault::OutOfRange),
+    }
+}
+
+/// How far a report may be from the truth, in the unit of the number: 0 to 10000.
+#[tactic(auto, unfolding(crate::specs::Number::count_in, crate::specs::Number::number_in))]
+pub(crate) fn error_bound(field: &[u8]) -> Result<u32, LineFault>
+    ensures value { result ≡ count_in error_bounds field.now }
+    ensures range { IfOk result IsErrorBound }
+{
+    match number(field)? {
+        n @ 0..=10_000 => Ok(n as u32),
         _ => Err(LineFault::OutOfRange),
     }
 }

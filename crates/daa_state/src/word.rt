@@ -19,7 +19,8 @@ pub struct Own {
 }
 
 /// How far one report may be from the truth, each from 0 to 10000. A report whose four bounds are 0
-/// is taken as the truth.
+/// is taken as the truth. The layout is that of C.
+#[repr(C)]
 #[derive(Clone, Copy, Debug, PartialEq, Eq, Default)]
 pub struct ReportBounds {
     /// The distance over ground between true and reported place, in thousandths of a nautical mile.
@@ -92,11 +93,12 @@ pub struct Picture {
 pub enum Word {
     /// A moment of this time, in seconds, begins.
     Moment(u32),
-    /// The ownship of the open moment.
-    Own(Own),
-    /// One more aircraft of the open moment.
+    /// The ownship of the open moment, and what its report may err by.
+    Own(Own, ReportBounds),
+    /// One more aircraft of the open moment. What the ownship's report may err by is put beside its
+    /// own bounds when the moment ends.
     Traffic(Traffic),
-    /// The lines that follow are in this format, 1 or 2.
+    /// The lines that follow are in this format, 1 to 3.
     Format(u32),
     /// The open moment ends.
     End,

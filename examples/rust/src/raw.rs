@@ -2,7 +2,7 @@
 use crate::{Course, Grid, Level, Own, Place, Seen};
 
 /// The version of that header: the structs of an archive of another version may be others.
-pub const VERSION: i32 = 30200;
+pub const VERSION: i32 = 30300;
 
 #[repr(C)]
 #[derive(Clone, Copy, Default)]

@@ -129,6 +129,51 @@ fn a_moment_that_is_not_later_is_told_the_last(rt: HostRuntime) -> Result<(), Fa
     Ok(())
 }
 
+/// Lines of a moment in format 3, an aircraft's before the ownship's.
+static WITH_BOUNDS: [(&[u8], u8); 9] = [
+    (b"format 4", 6),
+    (b"format 3", 0),
+    (b"moment 7", 0),
+    (b"traffic a 0 0 0 0 0 0 5", 3),
+    (b"traffic a 0 0 0 0 0 0 5 10 20 30 10001", 6),
+    (b"traffic a 0 0 0 0 0 0 5 10 20 30 10000", 0),
+    (b"own 5 0 1000 0 3600 0", 3),
+    (b"own 5 0 1000 0 3600 0 1 -1 3 4", 6),
+    (b"own 5 0 1000 0 3600 0 1 2 3 4", 0),
+];
+
+#[test]
+fn the_bounds_of_both_reports_stand_at_the_aircraft(rt: HostRuntime) -> Result<(), Fail> {
+    let mut moments = Moments::new();
+    expect_codes(&rt, &mut moments, &WITH_BOUNDS);
+    let picture = picture_at_end(&mut moments)?;
+    assert!(rt; picture.own == OWN);
+    let [aircraft] = picture.traffic.as_slice() else {
+        return Err("one aircraft".into());
+    };
+    let own = ReportBounds {
+        place: 1,
+        height: 2,
+        speed: 3,
+        climb: 4,
+    };
+    let of_aircraft = ReportBounds {
+        place: 10,
+        height: 20,
+        speed: 30,
+        climb: 10_000,
+    };
+    assert!(rt; aircraft.age == 5);
+    assert!(rt;
+        aircraft.bounds
+            == PairBounds {
+                own,
+                aircraft: of_aircraft
+            }
+    );
+    Ok(())
+}
+
 #[test]
 fn a_copy_has_the_same_aircraft(rt: HostRuntime) -> Result<(), Fail> {
     let mut moments = Moments::new();

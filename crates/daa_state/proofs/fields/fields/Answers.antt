@@ -10,4 +10,4 @@ pub returns : goal.returns
 returns c =
     let all = YieldsList-end (YieldsList-from_slice_split _ (λ (byte : ℕ). byte == 32 || byte == 9) c.args.line.now (cc) (cc) (cc) (λ x r q k. search
     (rules, tests))) c.loop-field.yielded _ c.loop-field.yielded_by _ _ c.in-None.is c.next.ensures.steps in
-    c.loop-field.invariant ∙ ap (λ (parts : List Bytes). take 10 (filter (λ (field : Bytes). not (length field == 0)) parts)) all.0
+    c.loop-field.invariant ∙ ap (λ (parts : List Bytes). take 14 (filter (λ (field : Bytes). not (length field == 0)) parts)) all.0
