@@ -4,10 +4,12 @@
 "use strict";
 /** @type {(root: Root) => void} */
 function daaFlight(root) {
+  const { ONE, isPlace, placeSeen, seenFrom } = root.daa.ellipsoid;
   const RADIANS = Math.PI / 180;
   const [MIL, FOOT] = [36, 60]; // units of a thousandth of a nautical mile, and of a foot
-  const MOST = { x: 200000, y: 200000 }; // of an ownship's place, on both sides of 0
+  const MOST = 200000; // of a place, on both sides of 0
   const ALTITUDES = [-2000, 60000];
+  const MOST_TURN = 45; // degrees: with the meridians' convergence it is no right angle
 
   /** The sine of whole degrees, in ten thousandths.
    *  @type {(degrees: number) => number} */
@@ -69,22 +71,37 @@ function daaFlight(root) {
     }
   }
 
-  /** By how much the plane of a moment is turned, in degrees: by its comment on where it is.
-   *  @type {(moment: Moment) => number} */
-  function turnOf({ comments }) {
-    const origin = comments.find((text) => text.startsWith("# origin "));
-    return origin ? Number(origin.split(/[ \t]+/)[4]) : 0;
+  /** @type {(x: number, y: number) => boolean} */
+  const isWithin = (x, y) => Math.abs(x) <= MOST && Math.abs(y) <= MOST;
+
+  const NUMBER = "(-?[0-9]{1,3}(?:\\.[0-9]{1,9})?)";
+  const ORIGIN = new RegExp(`^#[ \\t]+origin[ \\t]+${NUMBER}[ \\t]+${NUMBER}[ \\t]+${NUMBER}$`);
+
+  /** Where the ownship of a moment is on the globe, and by how much its plane is turned; null where no comment tells a place that is in range.
+   *  @type {(moment: { comments: string[] }) => Centre | null} */
+  function centreOf({ comments }) {
+    const [lat = NaN, lon = NaN, turn = NaN] = comments.flatMap((text) => ORIGIN.exec(text)?.slice(1, 4) ?? []).map(Number);
+    const place = { lat: Math.round(ONE * lat), lon: Math.round(ONE * lon), vx: 0, vy: 0 };
+    return isPlace(place) && Math.abs(turn) <= MOST_TURN ? { place, turn: Math.round(10000 * turn) } : null;
   }
 
-  /** @type {(place: Pair, degrees: number) => Pair} */
-  const clockwise = ([x, y], degrees) => {
-    const [cos, sin] = [Math.cos(degrees * RADIANS), Math.sin(degrees * RADIANS)];
-    return [x * cos + y * sin, y * cos - x * sin];
-  };
+  /** @type {(centre: Centre) => string} */
+  const originOf = ({ place, turn }) => `# origin ${(place.lat / ONE).toFixed(7)} ${(place.lon / ONE).toFixed(7)} ${(turn / 10000).toFixed(4)}`;
 
-  /** Moments from one on, in which the ownship flies a candidate from there and the traffic goes on as it was. The plane is that of the first
-   *  one. They end where the ownship is out of range.
-   *  @param {Moment[]} moments
+  /** An aircraft of one plane, in which the ownship has that place, in another one; null where it is out of range, or far.
+   *  @type {(one: Aircraft, from: Centre, own: Point, to: Centre, ownThere: Point) => Aircraft | null} */
+  function inPlane(one, from, own, to, ownThere) {
+    const found = placeSeen(from.place, { ...one, x: one.x - own.x, y: one.y - own.y }, from.turn);
+    const seen = found && seenFrom(to.place, found.place, to.turn);
+    if (!seen) return null;
+    const [x, y] = [ownThere.x + seen.x, ownThere.y + seen.y];
+    return isWithin(x, y) ? { ...one, ...seen, x, y } : null;
+  }
+
+  /** Moments from one on, in which the ownship flies a candidate from there, in the plane of that moment, and the traffic goes on as it was. Where
+   *  the moments tell where they are on the globe, so do those that are made: the traffic is put into the plane round the ownship that flies, which
+   *  is turned so that directions are those of the first plane. They end where the ownship is out of range, or only some tell where they are.
+   *  @param {ShownMoment[]} moments
    *  @param {Grids} grids
    *  @param {string | null} kind
    *  @param {number} value
@@ -92,23 +109,19 @@ function daaFlight(root) {
   function flown(moments, grids, kind, value) {
     const [first] = moments;
     const flight = new Flight(first.own, grids, kind, value);
-    const turn = turnOf(first);
+    const centre = centreOf(first);
     /** @type {Moment[]} */
     const made = [];
-    for (const moment of moments) {
-      const own = flight.at(moment.time - first.time);
-      if (Math.abs(own.x) > MOST.x || Math.abs(own.y) > MOST.y || own.alt < ALTITUDES[0] || own.alt > ALTITUDES[1]) break;
-      const back = turnOf(moment);
-      /** @type {(one: Aircraft) => Aircraft} */
-      const inPlane = (one) => {
-        if (turn === back && !back) return one;
-        const way = clockwise([one.x - moment.own.x, one.y - moment.own.y], back);
-        const [x, y] = clockwise([way[0] + moment.own.x - first.own.x, way[1] + moment.own.y - first.own.y], -turn);
-        const [vx, vy] = clockwise([one.vx, one.vy], back - turn);
-        return { ...one, x: Math.round(x) + first.own.x, y: Math.round(y) + first.own.y, vx: Math.round(vx), vy: Math.round(vy) };
-      };
-      const comments = moment.comments.filter((text) => moment === first || !text.startsWith("# origin "));
-      made.push({ ...moment, own: moment === first ? moment.own : own, traffic: moment.traffic.map(inPlane), comments });
+    for (const { recorded, ...moment } of moments) {
+      const isFirst = !made.length;
+      const own = isFirst ? first.own : flight.at(moment.time - first.time);
+      const from = centreOf(moment);
+      const to = centre && placeSeen(centre.place, { x: own.x - first.recorded.x, y: own.y - first.recorded.y, vx: 0, vy: 0 }, centre.turn);
+      const isTold = centre || from ? from && to : true;
+      if (!isFirst && !(isTold && isWithin(own.x, own.y) && ALTITUDES[0] <= own.alt && own.alt <= ALTITUDES[1])) break;
+      const traffic = isFirst || !from || !to ? moment.traffic : moment.traffic.flatMap((one) => inPlane(one, from, recorded, to, own) ?? []);
+      const comments = moment.comments.filter((text) => !ORIGIN.test(text));
+      made.push({ ...moment, own, traffic, comments: to ? [...comments, originOf(to)] : comments });
     }
     return made;
   }

@@ -187,7 +187,7 @@
       if (isWanted()) take(end);
     };
     try {
-      const worker = daa.workerOf([daaCore, COLUMNS, daaReading, daaPlausible, daaRecording, daaMoments, daaPieces], daaReader);
+      const worker = daa.workerOf([daaCore, COLUMNS, daaReading, daaPlausible, daaEllipsoid, daaRecording, daaMoments, daaPieces], daaReader);
       worker.onmessage = (/** @type {MessageEvent} */ { data }) => { if (isWanted()) take(data); };
       worker.onerror = () => {
         worker.terminate();

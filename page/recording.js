@@ -5,6 +5,7 @@
 /** @type {(root: Root) => void} */
 function daaRecording(root) {
   const { readText, round, many } = root.daa.reading;
+  const { ONE, nearest, isPlace, seenFrom } = root.daa.ellipsoid;
   const { NoRecording } = root.daa;
   const EARTH = Math.PI / 180;
   /** @type {Record<string, number>} */
@@ -65,7 +66,11 @@ function daaRecording(root) {
 
   // ---- the plane
 
-  /** How far a second place is east and north of a first one, in NM.
+  /** A place on the globe, and a velocity, as the plane round an ownship takes them.
+   *  @type {(place: Pair, east: number, north: number) => Place} */
+  const onGlobe = ([lat, lon], east, north) => ({ lat: round(ONE * lat), lon: round(ONE * lon), vx: round(10 * east), vy: round(10 * north) });
+
+  /** How far a second place is east and north of a first one, in NM: on the globe roughly, where a degree is 60 miles.
    *  @type {(onEarth: boolean) => Offset} */
   function offsetOn(onEarth) {
     if (!onEarth) return (one, other) => [other[0] - one[0], other[1] - one[1]];
@@ -177,7 +182,7 @@ function daaRecording(root) {
         return;
       }
       const silence = this.silence || this.silenceBetween(last, time);
-      const { traffic, comments } = this.trafficAt(row, found.own, found.angle, time);
+      const { traffic, comments } = this.trafficAt(row, found, time);
       if (this.onEarth) comments.push(`# origin ${fixed(row.place[0], 7)} ${fixed(row.place[1], 7)} ${fixed(found.angle / EARTH, 4)}`);
       this.made.push({ time, own: found.own, traffic, silence, comments });
       Object.assign(this, { silence: "", last: time });
@@ -202,38 +207,68 @@ function daaRecording(root) {
       return `no report of the ownship between ${last} and ${time} s`;
     }
 
-    /** The ownship's numbers, and the angle by which the plane is turned, so that rounding its track costs nothing.
-     *  @type {(row: Row, start: Row) => { own: Own, angle: number } | null} */
+    /** The ownship's numbers, where it is on the globe, and by how much the plane is turned (in 0.0001 degree, and as an angle), so that
+     *  rounding its track costs nothing.
+     *  @type {(row: Row, start: Row) => OwnFrame | null} */
     ownOf(row, start) {
       const moving = row.east || row.north;
       const track = modulo(moving ? Math.atan2(row.east, row.north) * (180 / Math.PI) : row.track, 360);
       const whole = round(track);
-      const [east, north] = this.offset(start.place, row.place);
-      const isNear = Math.max(Math.abs(east), Math.abs(north)) <= FARTHEST_OWN;
-      const own = { x: isNear ? round(1000 * east) : 0, y: isNear ? round(1000 * north) : 0, alt: round(row.alt), trk: whole % 360,
-        gs: round(10 * Math.hypot(row.east, row.north)), vs: round(row.vs) };
+      const turn = round(10000 * (track - whole));
+      const place = this.onEarth ? onGlobe(row.place, 0, 0) : null;
+      if (place && !isPlace(place)) return null;
+      const at = this.ownPlace(row, place, start);
+      const own = { x: at ? at[0] : 0, y: at ? at[1] : 0, alt: round(row.alt), trk: whole % 360, gs: round(10 * Math.hypot(row.east, row.north)),
+        vs: round(row.vs) };
       if (!isWithin(own, ["vs"]) || own.gs > FASTEST) return null;
-      this.far += Number(!isNear);
-      return { own, angle: (track - whole) * EARTH };
+      this.far += Number(!at);
+      return { own, place, turn, angle: (place ? turn / 10000 : track - whole) * EARTH };
+    }
+
+    /** Where the ownship is in the plane round where it began, or null where that is too far away.
+     *  @type {(row: Row, place: Place | null, start: Row) => Pair | null} */
+    ownPlace(row, place, start) {
+      if (place) {
+        const seen = seenFrom(onGlobe(start.place, 0, 0), place, 0);
+        return seen && [seen.x, seen.y];
+      }
+      const [east, north] = this.offset(start.place, row.place);
+      return Math.max(Math.abs(east), Math.abs(north)) <= FARTHEST_OWN ? [round(1000 * east), round(1000 * north)] : null;
     }
 
     /** An aircraft's numbers, or null where they are out of range: its latest report, flown straight on by the fraction of a second.
-     *  @type {(row: Row, ownRow: Row, own: Own, angle: number, way: Pair) => Aircraft | null} */
-    trafficOf(row, ownRow, own, angle, [east, north]) {
+     *  @type {(row: Row, ownRow: Row, frame: OwnFrame, way: Pair) => Aircraft | null} */
+    trafficOf(row, ownRow, { own, place, turn, angle }, way) {
       const late = ownRow.time - row.time;
       const age = Math.min(wholeSecond(late), MOST_AGE);
       const part = late - age;
-      const place = rotated(east + (row.east * part) / 3600, north + (row.north * part) / 3600, angle);
-      const speed = rotated(row.east, row.north, angle);
-      const made = { id: this.idOf(row.name), x: own.x + round(1000 * place[0]), y: own.y + round(1000 * place[1]),
-        alt: round(row.alt + (row.vs * part) / 60), vx: round(10 * speed[0]), vy: round(10 * speed[1]), vs: round(row.vs), age };
+      const seen = place ? this.seenOnGlobe(row, place, turn, part) : this.seenInPlane(row, way, angle, part);
+      if (!seen) return null;
+      const made = { id: this.idOf(row.name), x: own.x + seen.x, y: own.y + seen.y, alt: round(row.alt + (row.vs * part) / 60),
+        vx: seen.vx, vy: seen.vy, vs: round(row.vs), age };
       return isWithin(made, ["x", "y", "vx", "vy", "vs"]) ? made : null;
+    }
+
+    /** Place and velocity, so many seconds after the report, of an aircraft of a recording in a plane.
+     *  @type {(row: Row, way: Pair, angle: number, seconds: number) => Seen} */
+    seenInPlane(row, [east, north], angle, seconds) {
+      const place = rotated(east + (row.east * seconds) / 3600, north + (row.north * seconds) / 3600, angle);
+      const speed = rotated(row.east, row.north, angle);
+      return { x: round(1000 * place[0]), y: round(1000 * place[1]), vx: round(10 * speed[0]), vy: round(10 * speed[1]) };
+    }
+
+    /** The same of a recording on the globe, by the numbers of daa_plane and daa_fly; or null where it is out of range.
+     *  @type {(row: Row, own: Place, turn: number, seconds: number) => Seen | null} */
+    seenOnGlobe(row, own, turn, seconds) {
+      const seen = seenFrom(own, onGlobe(row.place, row.east, row.north), turn);
+      const ms = round(1000 * seconds);
+      return seen && { ...seen, x: seen.x + nearest(seen.vx * ms, 36000), y: seen.y + nearest(seen.vy * ms, 36000) };
     }
 
     /** The nearest aircraft, as many as there may be, in the order in which the recording first has them; the comments on those that the
      *  moment lacks.
-     *  @type {(ownRow: Row, own: Own, angle: number, time: number) => { traffic: Aircraft[], comments: string[] }} */
-    trafficAt(ownRow, own, angle, time) {
+     *  @type {(ownRow: Row, frame: OwnFrame, time: number) => { traffic: Aircraft[], comments: string[] }} */
+    trafficAt(ownRow, frame, time) {
       /** @type {[number, Row, Pair][]} */
       const there = [];
       /** @type {Lacking[]} */
@@ -257,7 +292,7 @@ function daaRecording(root) {
       const isCrowded = there.length > daa.MOST_AIRCRAFT;
       if (isCrowded) there.sort(([one], [other]) => one - other);
       for (const [far, row, way] of there) {
-        const made = found.size < daa.MOST_AIRCRAFT ? this.trafficOf(row, ownRow, own, angle, way) : null;
+        const made = found.size < daa.MOST_AIRCRAFT ? this.trafficOf(row, ownRow, frame, way) : null;
         if (made) found.set(row.name, made);
         else {
           this.leaveOut("aircraft", "out of range, or more than there may be, in a moment");

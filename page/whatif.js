@@ -48,7 +48,7 @@
     const { moments, index, views: [view], surveys: [survey], name, told, alone, silence, lesson, edits } = state;
     const first = Math.max(0, index - BEFORE);
     const indices = Array.from({ length: Math.min(moments.length, index + AFTER) - first }, (_, i) => first + i);
-    const list = indices.map((at) => ({ ...shownAt(at), silence: moments.silence(at) }));
+    const list = indices.map((at) => ({ ...shownAt(at), silence: moments.silence(at), recorded: moments.at(at).own }));
     const here = index - first;
     const made = [...list.slice(0, here), ...daa.flownFrom(list.slice(here), view.config.grids, kind, Number(value))];
     const recorded = state.flown?.recorded ?? { moments, notes: survey.notes, name, told, alone, silence, lesson, edits, recording: state.recording };

@@ -150,3 +150,33 @@ def seen_along(way, turn, aircraft):
                 *turned(aircraft.vx, aircraft.vy, convergence + 1000 * turn, ONE))
     is_slow = abs(seen.vx) <= MOST_SPEED and abs(seen.vy) <= MOST_SPEED
     return seen if seen.x ** 2 + seen.y ** 2 <= FARTHEST ** 2 and is_slow else None
+
+
+# Floating point, for what is drawn.
+
+EQUATOR, FLATTENING, MILE = 6378137, 1 / 298.257223563, 1852  # m
+
+
+def destination(place, azimuth, miles):
+    """Where a flight along the ellipsoid ends, by Vincenty's direct formula: latitude and longitude in degrees, from such a place, so many
+    nautical miles along an azimuth in radians."""
+    pole = EQUATOR * (1 - FLATTENING)
+    tangent = (1 - FLATTENING) * math.tan(math.radians(place[0]))
+    cosine = 1 / math.hypot(1, tangent)
+    sine, first = tangent * cosine, math.atan2(tangent, math.cos(azimuth))
+    alpha = cosine * math.sin(azimuth)
+    rest = 1 - alpha * alpha
+    u = rest * (EQUATOR ** 2 - pole ** 2) / pole ** 2
+    a, b = 1 + u / 16384 * (4096 + u * (-768 + u * (320 - 175 * u))), u / 1024 * (256 + u * (-128 + u * (74 - 47 * u)))
+    arc = straight = miles * MILE / (pole * a)
+    for _ in range(4):
+        middle, across, along = math.cos(2 * first + arc), math.sin(arc), math.cos(arc)
+        arc = straight + b * across * (middle + b / 4 * (along * (2 * middle ** 2 - 1)
+                                                         - b / 6 * middle * (4 * across ** 2 - 3) * (4 * middle ** 2 - 3)))
+    middle, across, along = math.cos(2 * first + arc), math.sin(arc), math.cos(arc)
+    lat = math.atan2(sine * along + cosine * across * math.cos(azimuth),
+                     (1 - FLATTENING) * math.hypot(alpha, sine * across - cosine * along * math.cos(azimuth)))
+    turned_by = math.atan2(across * math.sin(azimuth), cosine * along - sine * across * math.cos(azimuth))
+    c = FLATTENING / 16 * rest * (4 + FLATTENING * (4 - 3 * rest))
+    lon = place[1] + math.degrees(turned_by - (1 - c) * FLATTENING * alpha * (arc + c * across * (middle + c * along * (2 * middle ** 2 - 1))))
+    return math.degrees(lat), (lon + 180) % 360 - 180

@@ -5,6 +5,7 @@ import statistics
 from typing import NamedTuple
 
 from daidalus_files import Moment, Problem, Reader, read_bytes
+from ellipsoid import destination
 
 DAY = 86400
 
@@ -50,10 +51,7 @@ def place_on_globe(moment, at):
     if moment.origin is None:
         return None
     lat, lon, turn = moment.origin
-    sine, cosine = math.sin(math.radians(turn)), math.cos(math.radians(turn))
-    north = lat + (at.north * cosine - at.east * sine) / 60
-    eastward = (at.east * cosine + at.north * sine) / 60 / max(math.cos(math.radians((lat + north) / 2)), 1e-9)
-    return north, within_half_turn(lon + eastward)
+    return destination((lat, lon), math.atan2(at.east, at.north) + math.radians(turn), at.horizontal)
 
 
 def within_half_turn(lon):

@@ -9,7 +9,7 @@ const vm = require("vm");
 
 const page = process.argv[2];
 const run = (name) => vm.runInThisContext(fs.readFileSync(path.join(page, `${name}.js`), "utf8"));
-["engine.wasm", "core", "toml", "columns", "reading", "plausible", "recording", "moments", "pieces"].forEach(run);
+["engine.wasm", "core", "toml", "columns", "reading", "plausible", "ellipsoid", "recording", "moments", "pieces"].forEach(run);
 const bytesOf = (text) => new Uint8Array(Buffer.from(text, "base64"));
 
 const DRAWING = ["labels", "art", "meanings", "places", "profile", "compass", "tapes", "words", "aircraft", "handles", "draw", "strip"];

@@ -224,9 +224,9 @@ class Recordings(unittest.TestCase):
         self.assertGreater(left_out, 2)
 
     def test_two_aircraft_on_both_sides_of_the_180th_meridian_are_near(self):
-        """From 179.99 degrees east to 179.99 west is a fiftieth of a degree, which on the equator is 1.2 NM, whoever is the ownship."""
+        """From 179.99 degrees east to 179.99 west is a fiftieth of a degree, of which the equator has 60.1077 NM each, whoever is the ownship."""
         text = "name,time,lat,lon,alt,trk,gs,vs\nA,0,0,179.99,1000,0,100,0\nB,0,0,-179.99,1000,0,100,0\n"
-        for own, east in (("A", 1200), ("B", -1200)):
+        for own, east in (("A", 1202), ("B", -1202)):
             states = in_node([["recording", text.encode(), own]])[0]["states"]
             self.assertRegex(states, rf"(?m)^traffic [AB] {east} 0 1000 ")
             self.assertEqual(states, self.from_daa(text, own))

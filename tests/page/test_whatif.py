@@ -11,8 +11,11 @@ import unittest
 from nodes import HOW, NODE, OPEN, on_page
 from shared import ENCOUNTER, RECOVERY, THREE_LEVELS, TOP, bytes_of, levels_of, moments_in, moments_of, program, replayed, text_of
 
-sys.path.insert(0, os.path.join(TOP, "tools"))
-import headings  # noqa: E402 (tools/ is no package)
+sys.path[:0] = [os.path.join(TOP, "tools"), os.path.join(TOP, "tests", "tools")]
+import ellipsoid  # noqa: E402 (tools/ is no package)
+import headings  # noqa: E402
+from daidalus_files import Origin  # noqa: E402
+from test_ellipsoid import drawn, geodesic  # noqa: E402
 
 FLY = OPEN + """
     const decided = async () => {
@@ -174,10 +177,9 @@ class Flown(unittest.TestCase):
         """A recording on the globe, whose plane is turned at each moment so that the track is whole: who flew straight meets the same if that is flown."""
         rows = "time,id,lat,lon,alt,gs,trk,vs\n"
         for second in range(0, 200, 4):
-            along, other = 300 * second / 3600 / 60, 250 * second / 3600 / 60
-            for name, lat, lon, way, speed, track in (("OWN", 0.0, 0.0, along, 300, 33.4), ("ONE", 0.30, 0.05, other, 250, 200.7)):
-                bearing = math.radians(track)
-                rows += f"{second},{name},{lat + way * math.cos(bearing):.7f},{lon + way * math.sin(bearing):.7f},10000,{speed},{track},0\n"
+            for name, start, speed, track in (("OWN", (0.0, 0.0), 300, 33.4), ("ONE", (0.30, 0.05), 250, 200.7)):
+                lat, lon = ellipsoid.destination(start, math.radians(track), speed * second / 3600)
+                rows += f"{second},{name},{lat:.7f},{lon:.7f},10000,{speed},{track},0\n"
         (recorded, flown), comments = on_page(FLY + """
             await open(["turned.csv", given[0]]);
             await decided();
@@ -187,6 +189,72 @@ class Flown(unittest.TestCase):
         self.assertRegex(comments[0], r"^# origin .* 0\.4000$")
         self.assertAlmostEqual(float(recorded[0]), float(flown[0]), delta=0.02)
         self.assertEqual(recorded[3:], flown[3:])
+
+    @staticmethod
+    def seen(own, other):
+        """East and north of a place from another one, in NM along the geodesic, and how far the meridians converge, by Vincenty's formulas."""
+        far, azimuth, at_end = geodesic(math.radians(own[0]), math.radians(other[0]), math.radians(other[1] - own[1]))
+        return far * math.sin(azimuth), far * math.cos(azimuth), at_end - azimuth, at_end
+
+    def test_on_the_globe_the_traffic_is_round_the_ownship_that_flies(self):
+        """Of a recording at 60 degrees north, along whose 45 NM to the east the meridians converge by more than a degree: the ownship, which was put
+        2 NM beside its place and then turns, is where the first plane has it, and each aircraft is from it as far and in the direction that the
+        recording has."""
+        flights = {"OWN": ((60.0, 5.0), 80.3, 450), "ONE": ((60.6, 7.0), 200.6, 300), "TWO": ((60.1, 5.2), 81.7, 430)}
+        places, text = {}, "time,id,lat,lon,alt,gs,trk,vs\n"
+        for second in range(0, 361, 10):
+            for name, (start, azimuth, knots) in flights.items():
+                lat, lon = ellipsoid.destination(start, math.radians(azimuth), knots * second / 3600)
+                track = math.degrees(self.seen(start, (lat, lon))[3]) if second else azimuth
+                places[second, name] = (lat, lon), math.radians(track), knots
+                text += f"{second},{name},{lat:.7f},{lon:.7f},10000,{knots},{track % 360:.5f},0\n"
+        states = on_page(FLY + """
+            await open(["globe.csv", given[0]]);
+            const moments = Array.from({ length: page.moments.length - 3 }, (_, i) => page.moments.at(3 + i));
+            const [first, ...list] = moments.map((it) => ({ ...it, recorded: it.own }));
+            const moved = { ...first, own: { ...first.own, x: first.own.x + 2000 } };
+            return daa.stateLines([first, ...daa.flownFrom([moved, ...list], page.views[0].config.grids, "track", 170)]);""", text)
+        recorded, *moments = (moment for _, moment in moments_in(states.encode().replace(b"moment 30\n", b"moment 29\n", 1)))
+        self.assertEqual([moment.time for moment in moments], list(range(30, 361, 10)))
+        self.assert_seen(recorded.origin, moments[-1].origin, (moments[-1].own.x - recorded.own.x, moments[-1].own.y - recorded.own.y), 0.001)
+        for moment in moments:
+            for one in moment.traffic:
+                place, track, knots = places[moment.time, one.id]
+                self.assert_seen(moment.origin, place, (one.x - moment.own.x, one.y - moment.own.y), 0.002)
+                course = track - self.seen(moment.origin, place)[2] - math.radians(moment.origin.turn)
+                self.assertLess(math.dist((one.vx / 10, one.vy / 10), (knots * math.sin(course), knots * math.cos(course))), 0.2)
+            self.assertEqual(len(moment.traffic), 2)
+        self.assertGreater(abs(moments[-1].origin.turn), 0.6)
+
+    def assert_seen(self, origin, place, at, most):
+        """A place is there in the plane of an origin, in 0.001 NM, but for so many NM."""
+        east, north = self.seen(origin, place)[:2]
+        turn = math.radians(origin.turn)
+        wanted = east * math.cos(turn) - north * math.sin(turn), east * math.sin(turn) + north * math.cos(turn)
+        self.assertLess(math.dist(wanted, (at[0] / 1000, at[1] / 1000)), most)
+
+    def test_the_numbers_of_the_plane_are_those_of_the_tools(self):
+        """At drawn places, of which some are out of range; and the way back leads to the place, by Vincenty's formulas."""
+        lottery, cases = random.Random(62), []
+        for most in (1, 10, 100, 130) * 200:
+            own, other = drawn(lottery, most)
+            cases.append([*own, *other, lottery.randint(-7200, 7200), lottery.randint(-7200, 7200), lottery.randint(-5030, 5030)])
+        found = on_page("""const { seenFrom, placeSeen } = daa.ellipsoid;
+            return given[0].map(([lat, lon, otherLat, otherLon, vx, vy, turn]) => {
+              const own = { lat, lon, vx: 0, vy: 0 };
+              const seen = seenFrom(own, { lat: otherLat, lon: otherLon, vx, vy }, turn);
+              return [seen, seen && placeSeen(own, seen, turn)];
+            });""", cases)
+        taken = 0
+        for (lat, lon, other_lat, other_lon, vx, vy, turn), (seen, back) in zip(cases, found, strict=True):
+            wanted = ellipsoid.seen_from(ellipsoid.Place(lat, lon, 0, 0), ellipsoid.Place(other_lat, other_lon, vx, vy), turn)
+            self.assertEqual(seen and tuple(seen.values()), wanted)
+            if back and wanted.x ** 2 + wanted.y ** 2 > 100:
+                taken += 1
+                origin = Origin(lat / 1e7, lon / 1e7, turn / 10000)
+                self.assert_seen(origin, (back["place"]["lat"] / 1e7, back["place"]["lon"] / 1e7), wanted[:2], 0.0003)
+                self.assertLess(math.dist((back["place"]["vx"], back["place"]["vy"]), (vx, vy)), 2)
+        self.assertGreater(taken, 500)
 
 
 @unittest.skipUnless(NODE, HOW)

@@ -6,6 +6,7 @@ import unittest
 
 from common import ToolTest
 from daidalus_files import MOST_LINE_BYTES, Moment, Reader, lacks_line, name_line, no_moment_line
+from test_ellipsoid import geodesic
 
 HEAD = "name,time,lat,lon,alt,trk,gs,vs\n"
 PLANE = "name,time,sx,sy,alt,vx,vy,vs\n"
@@ -105,13 +106,10 @@ class Written(ToolTest):
                        for time, (lat, lon, *there) in enumerate(places))
         for moment, (lat, lon, *there) in zip(self.made(HEAD + rows)[0].events, places, strict=True):
             self.assertEqual((moment.origin.lat, moment.origin.lon), (float(lat), float(lon)))
-            turn = math.radians(moment.origin.turn)
             east, north = ((there - own) / 1000 for there, own in zip(moment.traffic[0][1:3], moment.own[:2]))
-            east, north = east * math.cos(turn) + north * math.sin(turn), north * math.cos(turn) - east * math.sin(turn)
-            found = moment.origin.lat + north / 60
-            self.assertAlmostEqual(found, float(there[0]), delta=0.001 / 60)
-            middle = math.radians((moment.origin.lat + found) / 2)
-            self.assertAlmostEqual(moment.origin.lon + east / 60 / math.cos(middle), float(there[1]), delta=0.002 / 60)
+            far, azimuth, _ = geodesic(*map(math.radians, (float(lat), float(there[0]), float(there[1]) - float(lon))))
+            bearing = azimuth - math.radians(moment.origin.turn)
+            self.assertLess(math.dist((east, north), (far * math.sin(bearing), far * math.cos(bearing))), 0.001)
         self.assertIsNone(self.made(PLANE + "own,0,0,0,0,0,100,0\n")[0].events[0].origin)
 
     def test_whole_names(self):

@@ -7,6 +7,7 @@ import unittest
 from common import TOP, ToolTest  # noqa: F401 (TOP: the path of tools/ is set there)
 from daidalus_files import Moment, Origin, Own, Traffic
 from flights import Approaches, Clock, Relative, States, place_on_globe
+from test_ellipsoid import geodesic
 from test_table import moment
 
 # The ownship goes north at 360 knots, 0.1 miles a second, from 52 N 4 E. A crosses ahead from the left, 300 feet above, at the
@@ -49,14 +50,22 @@ class Geometry(unittest.TestCase):
         self.assertAlmostEqual(approaches.found["A"].horizontal, math.hypot(0.05, 0.45))
 
     def test_a_place_on_the_globe(self):
-        """60 miles north of 52 N is 53 N. A plane that is turned by 90 degrees has its north in the true east: 30 miles at 60 N are
-        one degree of longitude; and beyond 180 degrees longitudes begin anew."""
+        """Its geodesic from the ownship has the length and, once the plane's turn is added, the direction that the plane has; and beyond
+        180 degrees longitudes begin anew."""
         state = Moment(0, 1)
-        for origin, at, wanted in (((52, 4, 0), (0, 60), (53, 4)), ((60, 4, 90), (0, 30), (60, 5)), ((60, 4, 90), (30, 0), (59.5, 4)),
-                                   ((60, 179.5, 0), (30, 0), (60, -179.5))):
-            state.origin = Origin(*origin)
-            for found, number in zip(place_on_globe(state, Relative(*at, 0)), wanted):
-                self.assertAlmostEqual(found, number, places=6)
+        for (lat, lon, turn), (east, north) in (((52, 4, 0), (0, 60)), ((60, 4, 90), (0, 30)), ((60, 4, 90), (30, 0)), ((60, 179.5, 0), (30, 0)),
+                                                ((-45, -179.9, 0.25), (-60, 40)), ((70, 10, -0.5), (3, -99))):
+            state.origin = Origin(lat, lon, turn)
+            found = place_on_globe(state, Relative(east, north, 0))
+            self.assertTrue(-180 <= found[1] < 180)
+            apart = (found[1] - lon + 180) % 360 - 180 or 1e-12
+            far, azimuth, _ = geodesic(math.radians(lat), math.radians(found[0]), math.radians(apart))
+            self.assertAlmostEqual(far, math.hypot(east, north), places=6)
+            off = math.degrees(azimuth - math.atan2(east, north)) - turn
+            self.assertAlmostEqual((off + 180) % 360 - 180, 0, places=6)
+        state.origin = Origin(52, 4, 0.3)
+        for number, wanted in zip(place_on_globe(state, Relative(0, 0, 0)), (52, 4)):
+            self.assertAlmostEqual(number, wanted, places=9)
         state.origin = None
         self.assertIsNone(place_on_globe(state, Relative(0, 0, 0)))
 
@@ -85,7 +94,8 @@ class Told(ToolTest):
     def test_a_table_tells_where_each_aircraft_is(self):
         rows = list(csv.DictReader(self.run_on(("table", "aircraft"), states()).splitlines()))
         self.assertEqual([(row["horizontal"], row["vertical"], row["altitude"]) for row in rows[1:3]], [("0.5523", "300", "10300"), ("0.4528", "300", "10300")])
-        self.assertEqual(rows[0]["latitude"], f"{52 + 0.55 / 60:.6f}")
+        there, apart = (math.radians(float(rows[0][it])) for it in ("latitude", "longitude"))
+        self.assertAlmostEqual(geodesic(math.radians(52), there, apart - math.radians(4))[0], math.hypot(1.05, 0.55), places=4)
         self.assertEqual({row["latitude"] for row in csv.DictReader(self.run_on(("table", "aircraft"), states(origin=False)).splitlines())}, {""})
 
     def test_times_by_the_clock(self):

@@ -6,6 +6,7 @@ import unittest
 
 from common import CONFIG, TOP, ToolTest
 from daidalus_files import EXACT, Bounds, Moment, Own, Reader, Traffic
+from test_ellipsoid import geodesic
 
 HEAD = "NAME lat lon alt trk gs vs time\n[none] [deg] [deg] [ft] [deg] [knot] [fpm] [s]\n"
 PLANE = "NAME sx sy sz vx vy vz time\n[none] [nmi] [nmi] [ft] [knot] [knot] [fpm] [s]\n"
@@ -35,17 +36,20 @@ class FromDaa(ToolTest):
             self.assertEqual(self.tool("from_daa", f"--bounds={word}", self.write("in.daa", text))[:2], (2, ""), word)
 
     def test_latitudes_and_longitudes(self):
-        """A minute of latitude is a mile, at 60 degrees north a minute of longitude half a one."""
+        """By Vincenty's formulas for WGS 84 0.1 degree of latitude is 6.0158 NM there, and 0.1 of longitude 3.0130, 0.0023 of them to the
+        north; and B's west is 0.0866 degrees to the left of the ownship's."""
         moments, _ = self.made(HEAD + "own 60 10 5000 90 150 -100 3\nA 60.1 10 5200 180 140 0 3\nB 60 10.1 5000 270 100 20 3\n")
         self.assertEqual([(moment.time, moment.own) for moment in moments], [(3, Own(0, 0, 5000, 90, 1500, -100))])
-        self.assertEqual(moments[0].traffic, [Traffic("A", 0, 6000, 5200, 0, -1400, 0), Traffic("B", 3000, 0, 5000, -1000, 0, 20)])
+        self.assertEqual(moments[0].traffic, [Traffic("A", 0, 6016, 5200, 0, -1400, 0), Traffic("B", 3013, 2, 5000, -1000, -2, 20)])
 
     def test_longitudes_over_the_date_line(self):
+        """0.02 degrees of the equator, of which a degree is 60.1077 NM."""
         moments, _ = self.made(HEAD + "own 0 179.99 0 0 100 0 0\nA 0 -179.99 0 0 100 0 0\n")
-        self.assertEqual(moments[0].traffic[0][1:3], (1200, 0))
+        self.assertEqual(moments[0].traffic[0][1:3], (1202, 0))
 
     def test_latitudes_past_the_pole(self):
-        """As one has where latitude and longitude are in each other's place; at the pole itself nothing is refused."""
+        """As one has where latitude and longitude are in each other's place. At the pole itself the rows are taken, but beyond 80 degrees no
+        plane is made."""
         text = HEAD + "own 35.60 139.70 0 0 100 0 0\nA {} 139.70 0 0 100 0 0\n"
         for lat in ("139.70", "-90.5"):
             status, out, said = self.tool("from_daa", "--strict", self.write("in.daa", text.format(lat)))
@@ -53,7 +57,9 @@ class FromDaa(ToolTest):
             self.assert_one_line(said, "line 4: too large a number for lat: are lat and lon in each other's place, or in another unit?: 'A ")
         radians = HEAD.replace("[deg] [deg] [ft]", "[rad] [deg] [ft]")
         for recording in (HEAD + "own 90 0 0 0 100 0 0\n", radians + f"own -{math.pi / 2} 0 0 0 100 0 0\n"):
-            self.assertEqual(len(self.made(recording)[0]), 1)
+            status, out, said = self.tool("from_daa", "--strict", self.write("in.daa", recording))
+            self.assertEqual((status, out), (3, ""))
+            self.assertIn("left out: 1 moment whose ownship is out of range", said)
 
     def test_places_and_speeds_in_the_plane(self):
         moments, _ = self.made(PLANE + "own 1 2 5000 0 150 0 0\nA 3 1.5 4000 -30.04 40 -500 0\n")
@@ -119,12 +125,17 @@ class FromDaa(ToolTest):
         text = PLANE + f"own 0 0 0 0 100 0 {'9' * 5000}:00:00\n"
         self.assertEqual(self.tool("from_daa", self.write("in.daa", text))[0], 3)
 
-    def test_the_plane_against_the_ellipsoid(self):
-        """At 60 degrees north, 4 degrees of longitude: in the plane 240 cos 60 = 120 NM, by Vincenty's formula for WGS 84 120.5000 NM;
-        a degree of latitude from the equator on is 59.7054 NM by it, and 60 in the plane."""
-        for there, off in (("60 10", "60 14"), "0.5000"), (("0 10", "1 10"), "0.2946"):
-            _, said = self.made(HEAD + f"own {there[0]} 0 0 100 0 0\nA {there[1]} 0 0 100 0 0\n")
-            self.assertIn(f"the plane against the ellipsoid WGS 84: distances differ by at most {off} NM", said)
+    def test_the_plane_is_that_of_the_ellipsoid(self):
+        """By Vincenty's formulas, to the rounding: 3 degrees of longitude at 60 degrees north, and a degree of latitude from the equator on. 4
+        degrees of longitude are 120.5 NM, which is too far."""
+        for (lat, lon), (other, east) in (((60, 10), (60, 13)), ((0, 10), (1, 10))):
+            far, azimuth, _ = geodesic(math.radians(lat), math.radians(other), math.radians(east - lon))
+            aircraft = self.made(HEAD + f"own {lat} {lon} 0 0 100 0 0\nA {other} {east} 0 0 100 0 0\n")[0][0].traffic[0]
+            self.assertLessEqual(abs(aircraft.x - 1000 * far * math.sin(azimuth)), 0.7)
+            self.assertLessEqual(abs(aircraft.y - 1000 * far * math.cos(azimuth)), 0.7)
+        moments, said = self.made(HEAD + "own 60 10 0 0 100 0 0\nA 60 14 0 0 100 0 0\n")
+        self.assertEqual(moments[0].traffic, [])
+        self.assertIn("left out: 1 aircraft out of range", said)
 
     def test_what_rounding_costs_of_a_climb(self):
         """100.4 and 200.6 become 100 and 201: their difference 101 is off by 0.8."""

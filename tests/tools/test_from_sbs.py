@@ -20,9 +20,15 @@ from common import CONFIG, TOP, ToolTest, module, replayed
 from daidalus_files import Moment, Reader
 
 import feeds
+from test_ellipsoid import geodesic
 
 from_sbs = module("tools/from_sbs")
 BEGIN = time.time()
+
+
+def miles(lat, other):
+    """How far two latitudes are from each other, in NM, by Vincenty's formulas."""
+    return geodesic(math.radians(lat), math.radians(other), 1e-13)[0]
 
 
 def lines_of(address, lat, lon, alt=3000, gs=360, trk=0, vs=0, at=None, parts="43"):
@@ -126,7 +132,7 @@ class FromSbs(ToolTest):
         self.assertEqual([(name, why) for name, why in moments[-1].lacks],
                          [(f"4B{number:04X}", f"more than 64 aircraft, {number / 10:.1f} NM away") for number in (65, 66, 67)])
         self.assertEqual([aircraft.id for aircraft in moments[-1].traffic], [f"4B{number:04X}" for number in range(1, 65)])
-        self.assertTrue(all(math.isclose(moments[-1].traffic[at].y, 100 * (at + 1), abs_tol=1) for at in range(64)))
+        self.assertTrue(all(math.isclose(moments[-1].traffic[at].y, 1000 * miles(47, 47 + (at + 1) / 600), abs_tol=1) for at in range(64)))
 
     def test_lines_that_waited_are_as_old_as_they_are(self):
         """From the third second on each line is written five seconds before it comes."""
@@ -184,7 +190,7 @@ class FromSbs(ToolTest):
         self.addCleanup(server.close)
         out, told = self.opened(server, "--own", "4B0001", "--json", path, "--seconds", "6").communicate(timeout=60)
         last = [event for event in Reader().read(out.encode()) if isinstance(event, Moment)][-1]
-        self.assertEqual([(it.id, it.y, it.alt) for it in last.traffic], [("4B0002", 6000, 5000)], told)
+        self.assertEqual([(it.id, it.y, it.alt) for it in last.traffic], [("4B0002", round(1000 * miles(47, 47.1)), 5000)], told)
         self.assertIn(last.traffic[0].age, (1, 2))
         self.assertEqual(last.lacks, [("4B0003", "no vertical speed, 12.0 NM away")])
 
@@ -274,7 +280,7 @@ class Recorded(ToolTest):
         for second in range(3, 14):
             [aircraft] = found[second].traffic
             self.assertEqual(aircraft.age, math.floor(second - (2.25 if second == 3 else 3.5)), second)
-            self.assertAlmostEqual(aircraft.y - found[second].own.y, 30000 - 100 * second, delta=1)
+            self.assertAlmostEqual(aircraft.y - found[second].own.y, 1000 * miles(47 + second / 600, 47.5), delta=1)
         self.assertEqual([found[second].lacks for second in (13, 14, 19)],
                          [[], [("4B0002", "no report for 10 s, 28.6 NM away")], [("4B0002", "no report for 15 s, 28.1 NM away")]])
         self.assertEqual([len(found[second].traffic) for second in (14, 19)], [0, 0])
@@ -317,8 +323,9 @@ class Recorded(ToolTest):
         text = "".join(lines_of("4B0001", lat, 8, gs=0, at=T + second) + lines_of("4B0002", lat + 0.1, 8, gs=0, at=T + second)
                        for second, lat in enumerate((47, 47, 48.5, 49.5, 49.5, 49.6, 49.6)))
         found, _, _ = self.moments(text)
-        self.assertEqual([(found[second].own.y, found[second].traffic[0].y) for second in range(1, 7)],
-                         [(0, 6000), (0, 6000), (90000, 96000), (0, 6000), (0, 6000), (6000, 12000)])
+        for second, (start, lat) in enumerate(((47, 47), (47, 47), (47, 48.5), (49.5, 49.5), (49.5, 49.5), (49.5, 49.6)), 1):
+            own_y = round(1000 * miles(start, lat)) if start != lat else 0
+            self.assertEqual((found[second].own.y, found[second].traffic[0].y), (own_y, own_y + round(1000 * miles(lat, lat + 0.1))), second)
 
     def test_addresses_without_end(self):
         """Of 4100 that are heard within a second those beyond the first 4000 are not kept, and are counted."""
@@ -401,9 +408,9 @@ class Kept(unittest.TestCase):
                 self.sky.take_line(line, T + second)
 
     def test_a_report_of_the_second_that_has_begun(self):
-        """It is flown back to its beginning: 0.04 NM in 0.4 s at 360 knots."""
+        """It is flown back to its beginning: 0.04 NM in 0.4 s at 360 knots, of the 6.0028 NM of a tenth of a degree there."""
         self.hear(0.4, "4B0001", "4B0002")
-        self.assertIn("traffic 4B0002 0 5960 3000 0 3600 0 0", self.sky.lines_at(T, True))
+        self.assertIn("traffic 4B0002 0 5963 3000 0 3600 0 0", self.sky.lines_at(T, True))
 
     def test_what_was_heard_long_ago_is_forgotten(self):
         """After a day with a new aircraft each minute only those of the last minutes are kept, and of what is told at the end so many as may be."""

@@ -25,10 +25,11 @@ class FromDaa(ToolTest):
         self.assertEqual(status, wanted, said)
         return [line for line in out.splitlines() if not line.startswith("#")], said
 
-    def test_the_cosine_is_that_of_the_middle_latitude(self):
-        """60 NM times the cosine of 60.5 degrees are 29.545 NM; of 60 degrees they would be 30, of 61 degrees 29.089."""
+    def test_the_place_is_at_the_end_of_the_geodesic(self):
+        """By Vincenty's formulas: 29.216 NM east and 60.384 NM north, and the meridians converge by 0.870 degrees; the middle latitude's cosine
+        alone gives 29.545 NM and 60 NM."""
         lines, _ = self.made(HEAD + "own 60 10 5000 0 100 0 0\nA 61 11 5000 0 100 0 0\n")
-        self.assertEqual(lines[2], "traffic A 29545 60000 5000 0 1000 0")
+        self.assertEqual(lines[2], "traffic A 29216 60384 5000 -15 1000 0")
 
     def test_sixty_four_aircraft_are_written_and_no_more(self):
         aircraft = [f"T{number} {number / 10} 1 5000 0 100 0 0\n" for number in range(1, 66)]

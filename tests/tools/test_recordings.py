@@ -14,6 +14,7 @@ import operators
 from common import TOP, ToolTest, module
 from daidalus_files import Moment, Reader, status_of
 from operators import ALONE, BEGIN, CROSSING, HEAD_ON, HEX, IN_PART, OWN, PLAIN, REFUSED, RIGHT, SECONDS, SILENT, WRONG, flown, plain
+from test_ellipsoid import geodesic
 
 ADVICES = ("times as fast as", "degrees off", "stand still", "speeds are 0", "all along where", "never nearer", "another time zone", "in capitals alone",
            "no height is above")
@@ -59,10 +60,9 @@ class Operators(RecordingTest):
 
     def check_aircraft(self, moment, aircraft, there, own, name):
         """An aircraft where it is, flown on from its report, in the plane that is turned by the fraction of the ownship's track."""
-        north = (there["lat"] - own["lat"]) * 60
-        east = (there["lon"] - own["lon"]) * 60 * math.cos(math.radians((there["lat"] + own["lat"]) / 2))
-        turn = math.radians(own["trk"] - round(own["trk"]))
-        x, y = east * math.cos(turn) - north * math.sin(turn), east * math.sin(turn) + north * math.cos(turn)
+        far, azimuth, _ = geodesic(*map(math.radians, (own["lat"], there["lat"], there["lon"] - own["lon"])))
+        bearing = azimuth - math.radians(own["trk"] - round(own["trk"]))
+        x, y = far * math.sin(bearing), far * math.cos(bearing)
         flown_on = [speed / 10 * aircraft.age / 3600 for speed in (aircraft.vx, aircraft.vy)]
         self.assertLess(math.dist((x, y), ((aircraft.x - moment.own.x) / 1000 + flown_on[0], (aircraft.y - moment.own.y) / 1000 + flown_on[1])), 0.004, name)
         self.assertLessEqual(abs(aircraft.alt + aircraft.vs * aircraft.age / 60 - there["alt"]), 6, name)

@@ -6,9 +6,10 @@ import operator
 import re
 
 from daidalus_files import AGE, ALT, EXACT, FIELDS, GS, MOST_AIRCRAFT, VS, VX, Own, X, fixed, lacks_line, origin_line, whole_traffic
+import ellipsoid
 from headings import velocity
 
-from .plane import closest, offset, on_ellipsoid, rotated
+from .plane import closest, offset, rotated
 
 LAST_SECOND = FIELDS["moment"][0].high
 LEAST_PLACE, MOST_PLACE, LEAST_SPEED, MOST_SPEED, LEAST_CLIMB, MOST_CLIMB = X.low, X.high, VX.low, VX.high, VS.low, VS.high
@@ -21,9 +22,6 @@ FORGOTTEN = 300  # s: after so long an old report says nothing any more about wh
 MORE = f"more than {MOST_AIRCRAFT} aircraft"
 MOST_LACKS = 20  # aircraft that a moment lacks and that are named one by one
 MEASURED = 4  # aircraft of a moment, the nearest ones, of which it is measured what rounding costs
-# By how much of itself a distance in the plane may be off below this latitude: since a minute has 1843 to 1862 m and not always the 1852
-# of a mile, and with the distance's square since meridians run together.
-MOST_OFF, MOST_BENT, HIGH = 0.0055, 1e-6, 80
 
 
 def whole_second(time):
@@ -33,6 +31,12 @@ def whole_second(time):
 
 def fits(value, field):
     return field.low <= value <= field.high
+
+
+def on_globe(row):
+    """A report's place and velocity as the plane round an ownship takes them."""
+    lat, lon = row.place
+    return ellipsoid.Place(round(ellipsoid.ONE * lat), round(ellipsoid.ONE * lon), round(10 * row.east), round(10 * row.north))
 
 
 class Identifiers(dict):
@@ -63,11 +67,10 @@ class Identifiers(dict):
 
 
 class Losses:
-    """The greatest of each thing that rounding costs between the ownship and an aircraft: NM, ft, knots, ft/min, NM; and how far the
-    plane's distances are off from those on the ellipsoid, in NM."""
+    """The greatest of each thing that rounding costs between the ownship and an aircraft: NM, ft, knots, ft/min, NM."""
 
     def __init__(self):
-        self.place = self.height = self.speed = self.climb = self.closest = self.plane = 0.0
+        self.place = self.height = self.speed = self.climb = self.closest = 0.0
         self.count, self.is_in_part = 0, False
 
     def note(self, place, speed, seen_place, seen_speed, height, climb):
@@ -89,11 +92,6 @@ class Losses:
         if climb > self.climb or -climb > self.climb:
             self.climb = abs(climb)
 
-    def note_plane(self, far, own_place, place):
-        """Notes how far a distance in the plane is off, unless it can't be the greatest."""
-        if far * (MOST_OFF + far * far * MOST_BENT) > self.plane or abs(own_place[0]) > HIGH:
-            self.plane = max(self.plane, abs(far - on_ellipsoid(own_place, place)))
-
     def told(self):
         if self.count:
             of_whom = f", of the {MEASURED} nearest aircraft of each moment" if self.is_in_part else ""
@@ -113,10 +111,11 @@ def by_approach(there, own_row):
 
 
 class OwnFrame:
-    """A moment's ownship: its report, its numbers, and how the plane is turned round it."""
+    """A moment's ownship: its report, its numbers, where it is on the globe (or None), and how the plane is turned round it: an angle, which on
+    the globe is a whole number of 0.0001 degree, the turn."""
 
-    def __init__(self, row, own, angle):
-        self.row, self.own, self.angle = row, own, angle
+    def __init__(self, row, own, place, turn, angle):
+        self.row, self.own, self.place, self.turn, self.angle = row, own, place, turn, angle
         self.time, self.x, self.y = row.time, own.x, own.y
         self.cos, self.sin = math.cos(angle), math.sin(angle)
         self.speed = self.turned(row.east, row.north)
@@ -223,43 +222,79 @@ class Maker:
         """The ownship's numbers and the plane round it, or None where they are out of range."""
         track = (math.degrees(math.atan2(row.east, row.north)) if row.east or row.north else row.track) % 360
         whole = round(track)
-        east, north = offset(self.start.place, row.place, self.on_earth)
-        is_far = max(abs(east), abs(north)) > FARTHEST_OWN
-        x, y = (0, 0) if is_far else (round(1000 * east), round(1000 * north))
+        turn = round(10000 * (track - whole))
+        place = on_globe(row)._replace(vx=0, vy=0) if self.on_earth else None
+        if place and not ellipsoid.is_place(place):
+            return None
+        x, y, is_far = self.own_place(row, place)
         own = Own(x, y, round(row.alt), whole % 360, round(10 * math.hypot(row.east, row.north)), round(row.vs))
         if not (fits(own.alt, ALT) and fits(own.gs, GS) and fits(own.vs, VS)):
             return None
         self.far += is_far
-        return OwnFrame(row, own, math.radians(track - whole))
+        return OwnFrame(row, own, place, turn, math.radians(turn / 10000 if place else track - whole))
+
+    def own_place(self, row, place):
+        """Where the ownship is in the plane round where it began, and whether it is too far away for that: then at 0 0."""
+        if place:
+            seen = ellipsoid.seen_from(on_globe(self.start)._replace(vx=0, vy=0), place, 0)
+            return (seen.x, seen.y, False) if seen else (0, 0, True)
+        east, north = offset(self.start.place, row.place, False)
+        is_far = max(abs(east), abs(north)) > FARTHEST_OWN
+        return (0, 0, True) if is_far else (round(1000 * east), round(1000 * north), False)
 
     def traffic_of(self, there, frame, is_measured):
         """An aircraft's numbers, or None where they are out of range; notes what is lost where that is measured."""
-        _, row, east, north, name, late, height, v_east, v_north, climb = there
-        cosine, sine = frame.cos, frame.sin
+        _, row, _, _, name, late, height, _, _, climb = there
         age = int(late + ROUNDING) if late < MOST_AGE else MOST_AGE
-        east_then, north_then = east, north
         if late != age:
-            hours = (late - age) / 3600
-            east_then, north_then, height = east + v_east * hours, north + v_north * hours, height + climb * hours * 60
-        east_off, north_off = east_then * cosine - north_then * sine, east_then * sine + north_then * cosine
-        speed_x, speed_y = v_east * cosine - v_north * sine, v_east * sine + v_north * cosine
+            height += climb * (late - age) / 60
+        found = self.on_ellipsoid(row, frame, late - age) if frame.place else self.in_plane(there, frame, late - age)
+        if found is None:
+            return None
+        x, y, vx, vy, exact = found
         # (by its method a number is rounded in less than half the time that round takes)
-        x, y, vx, vy = (1000 * east_off).__round__(), (1000 * north_off).__round__(), (10 * speed_x).__round__(), (10 * speed_y).__round__()
         place_x, place_y, alt, vs = frame.x + x, frame.y + y, height.__round__(), climb.__round__()
         if not (LEAST_PLACE <= place_x <= MOST_PLACE and LEAST_PLACE <= place_y <= MOST_PLACE and LOWEST <= alt <= HIGHEST
                 and LEAST_SPEED <= vx <= MOST_SPEED and LEAST_SPEED <= vy <= MOST_SPEED and LEAST_CLIMB <= vs <= MOST_CLIMB):
             return None
         if is_measured:
-            self.measure(row, frame, (east, north), (east_off, north_off), (x, y), (speed_x, speed_y), (vx, vy), alt - height, vs)
+            self.measure(row, frame, exact(), (x, y), (vx, vy), alt - height, vs)
         return whole_traffic((self.ids[name], place_x, place_y, alt, vx, vy, vs, age, EXACT))
 
-    def measure(self, row, frame, way, place, seen_place, speed, seen_speed, rounded_up, vs):
+    @staticmethod
+    def in_plane(there, frame, seconds):
+        """Place and velocity, so many seconds after the report, of an aircraft of a recording in a plane: as they are written, and what gives
+        them exactly."""
+        _, _, east, north, _, _, _, v_east, v_north, _ = there
+        place = frame.turned(east + v_east * seconds / 3600, north + v_north * seconds / 3600)
+        speed = frame.turned(v_east, v_north)
+        return (1000 * place[0]).__round__(), (1000 * place[1]).__round__(), (10 * speed[0]).__round__(), (10 * speed[1]).__round__(), lambda: (place, speed)
+
+    @staticmethod
+    def on_ellipsoid(row, frame, seconds):
+        """The same of a recording on the globe, by the numbers of daa_plane and daa_fly; or None where it is out of range."""
+        aircraft = on_globe(row)
+        way = ellipsoid.way_between(frame.place, aircraft)
+        seen = way and ellipsoid.seen_along(way, frame.turn, aircraft)
+        if not seen:
+            return None
+        x, y, vx, vy = seen
+        if ms := round(1000 * seconds):
+            x, y = x + ellipsoid.nearest(vx * ms, 36000), y + ellipsoid.nearest(vy * ms, 36000)
+
+        def exact():
+            convergence = math.radians(way[2] / ellipsoid.ONE)
+            east, north = rotated(way[0] / 100000, way[1] / 100000, frame.angle + convergence / 2)
+            speed = rotated(row.east, row.north, frame.angle + convergence)
+            return (east + speed[0] * seconds / 3600, north + speed[1] * seconds / 3600), speed
+        return x, y, vx, vy, exact
+
+    def measure(self, row, frame, exact, seen_place, seen_speed, rounded_up, vs):
         """Notes what rounding costs between the ownship and an aircraft."""
         (own_x, own_y), (seen_own_x, seen_own_y), (x, y), (vx, vy) = frame.speed, frame.seen_speed, seen_place, seen_speed
+        place, speed = exact
         self.losses.note(place, (speed[0] - own_x, speed[1] - own_y), (x / 1000, y / 1000), (vx / 10 - seen_own_x, vy / 10 - seen_own_y),
                          rounded_up - frame.own.alt + frame.row.alt, vs - frame.own.vs - row.vs + frame.row.vs)
-        if self.on_earth:
-            self.losses.note_plane(math.hypot(*way), frame.row.place, row.place)
 
     def traffic_at(self, frame, second):
         """The aircraft, of more than there may be the first ones by the rank, in the order in which the recording first has them; and the
@@ -368,5 +403,3 @@ class Maker:
         if self.far:
             yield f"{self.far} moment{'s' * (self.far != 1)} with the ownship at 0 0, more than {FARTHEST_OWN} NM from where it began"
         yield from self.losses.told()
-        if self.losses.plane:
-            yield f"the plane against the ellipsoid WGS 84: distances differ by at most {self.losses.plane:.4f} NM"

@@ -297,6 +297,24 @@ interface Placing { at: number; name: string; unit: string | null; }
 /** How far a second place is east and north of a first one, in NM. */
 type Offset = (one: Pair, other: Pair) => Pair;
 
+/** A place on the globe in ten-millionths of a degree, and the velocity east and north there. */
+interface Place { lat: number; lon: number; vx: number; vy: number; }
+
+/** The way from place to place in 0.00001 NM, and by how much the meridians converge. */
+interface Way { east: number; north: number; turn: number; }
+
+/** Where the ownship of a moment is on the globe, and by how much the plane round it is turned, in 0.0001 degree. */
+interface Centre { place: Place; turn: number; }
+
+/** A moment as it is shown, and its ownship as it was recorded. */
+interface ShownMoment extends Moment { recorded: Own; }
+
+/** An aircraft in the plane round an ownship, which is at 0 0. */
+interface Seen { x: number; y: number; vx: number; vy: number; }
+
+/** A moment's ownship, where it is on the globe (or null), and by how much the plane round it is turned: in 0.0001 degree, and as an angle. */
+interface OwnFrame { own: Own; place: Place | null; turn: number; angle: number; }
+
 /** An aircraft that a moment lacks: how far it was, its name, and what it lacks. */
 type Lacking = [number, string, string];
 
