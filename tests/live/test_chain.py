@@ -2,6 +2,7 @@
 ended once and begun anew; meanwhile no band is ever shown of a moment that is not the present one; and the log is judged."""
 import glob
 import os
+import re
 import signal
 import socket
 import subprocess
@@ -138,7 +139,10 @@ class Session(unittest.TestCase):
         self.await_banner("live")
 
     def test_each_part_ended_once(self):
-        seen = self.await_banner("live", "the program's report was the same 5 times")
+        def often():
+            told = re.search(r"the same (\d+) times", (seen := self.await_banner("live", "the program's report was the same"))["words"])
+            return seen if told and int(told[1]) >= 5 else None
+        seen = wait_for(often, "the program's report was the same 5 times")
         self.assertTrue(seen["said"] and seen["bands"] and seen["answers"], seen)
         with self.subTest("what is shown is what the log has"):
             self.assert_logged()

@@ -2,6 +2,7 @@
 which a test must refuse. The server is the tool's own, in this process; moments and reports are those of the tests."""
 import contextlib
 import json
+import re
 import socket
 import subprocess
 import threading
@@ -156,6 +157,14 @@ class LivePage(unittest.TestCase):
             return seen if seen["is"] == what and words in seen["words"] else None
         return wait_for(found, f"the banner is {what} {words}: {self.look()}")
 
+    def await_same(self, times):
+        """What is shown once the program's report was the same so often, or more often."""
+        def found():
+            seen = self.look()
+            told = re.search(r"the program's report was the same (\d+) times", seen["words"])
+            return seen if seen["is"] == "live" and told and int(told[1]) >= times else None
+        return wait_for(found, f"the program's report was the same {times} times")
+
     def assert_nothing_old(self, seen):
         """No band, answer, alert or line of a report is shown as the present one of a moment that is older than three seconds, and a little more
         that looking takes."""
@@ -166,7 +175,7 @@ class LivePage(unittest.TestCase):
 class Shown(LivePage):
     def test_the_present_moment(self):
         self.feed()
-        seen = self.await_banner("live", "the program's report was the same 3 times")
+        seen = self.await_same(3)
         self.assertLess(seen["now"] - seen["time"], 3)
         self.assertTrue(seen["said"] and seen["bands"] > 4 and seen["answers"] > 4 and seen["isSeen"], seen)
         self.assertTrue(seen["clock"].startswith(time.strftime("%Y-%m-%d %H:%M:", time.gmtime(seen["time"]))), seen["clock"])
@@ -179,7 +188,7 @@ class Shown(LivePage):
     def test_the_feed_stops(self):
         """After three seconds bands, answers and report go, and a sentence says why and since when."""
         feed = self.feed()
-        self.await_banner("live", "the same 2 times")
+        self.await_same(2)
         feed.stop()
         self.stage.board.put_why("The decoder is gone.")
         last, end = self.look()["time"], time.time() + 6
@@ -222,7 +231,7 @@ class Shown(LivePage):
 
     def test_looking_back(self):
         self.feed()
-        self.await_banner("live", "the same 3 times")
+        self.await_same(3)
         self.browser.js("document.getElementById('back').click()")
         seen = self.await_banner("past", "NOT LIVE: the moment of ")
         self.assertTrue(seen["said"] and seen["curtain"] is None, seen)
@@ -245,7 +254,7 @@ class Shown(LivePage):
     def test_a_page_that_stands_still(self):
         """While the page's script stands for nine seconds, what the browser shows becomes red all over, by its own pictures with their times."""
         self.feed()
-        self.await_banner("live", "the same 2 times")
+        self.await_same(2)
         self.stage.server.files = Slow(self.stage.server.files)
         self.browser.driver.get_log("performance")
         self.browser.driver.execute_cdp_cmd("Page.startScreencast", {"format": "png", "maxWidth": 480, "maxHeight": 300})
@@ -282,7 +291,7 @@ class Shown(LivePage):
     def test_a_changed_configuration(self):
         """The page goes on under the one that is typed, and says that the program has another."""
         self.feed()
-        self.await_banner("live", "the same 2 times")
+        self.await_same(2)
         self.browser.js("""const it = document.getElementById("toml"); it.value = it.value.replace("alert = 25", "alert = 20"); it.dispatchEvent(new Event("input", { bubbles: true }));""")
         seen = self.await_banner("live", "the configuration was changed here")
         wait_for(lambda: self.look()["time"] > seen["time"] + 1 and self.look()["said"], "moments go on")

@@ -160,7 +160,9 @@ class Recordings(unittest.TestCase):
         for lat in ("139.70", "-90.5"):
             self.assertEqual(self.refusal(f"{head}own,0,{lat},35.6,0,0,100,0\n"),
                              NONE + f"line 2: too large a number for lat: are lat and lon in each other's place, or in another unit?: 'own,0,{lat},35.6,0,0,100,0'")
-        self.assertIsNone(self.refusal(f"{head}own,0,-90,0,0,0,100,0\n"))
+        self.assertIsNone(self.refusal(f"{head}own,0,-80,0,0,0,100,0\n"))
+        for lat in ("-90", "80.1"):  # a latitude, but past those of the plane
+            self.assertEqual(self.refusal(f"{head}own,0,{lat},0,0,0,100,0\n"), "no moment is left; left out: 1 moment whose ownship is out of range")
 
     def test_what_is_made_and_told_as_the_tool_does(self):
         """Names that are identifiers are kept; a row may have an equals sign; 16.1 - 6.1 is a little more than 10 in floating point;
