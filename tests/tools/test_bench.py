@@ -151,7 +151,7 @@ class Bench(ToolTest):
                     self.assert_one_line(ran.stderr, f": {named} is no program that can be run\n")
 
     def test_an_interrupt_ends_it(self):
-        """Here it comes while the program runs."""
+        """Here it comes while the program runs; and once more, where Python was just clearing up something, in which it passes over one."""
         named = self.write("sleeper", '#!/bin/sh\n: >"$0.began"\nexec sleep 60\n')
         os.chmod(named, 0o755)
         words = [sys.executable, "-B", os.path.join(TOP, "bench", "run"), *SCRIPTS["run"][0], "--program", named]
@@ -162,7 +162,11 @@ class Bench(ToolTest):
             self.assertIsNone(run.poll())
             time.sleep(0.05)
         os.killpg(run.pid, signal.SIGINT)
-        run.communicate(timeout=30)
+        try:
+            run.communicate(timeout=10)
+        except subprocess.TimeoutExpired:
+            os.killpg(run.pid, signal.SIGINT)
+            run.communicate(timeout=30)
         self.assertNotEqual(run.returncode, 0)
 
     def test_words_that_are_not_taken(self):
